@@ -4,16 +4,16 @@ use Rattle.clap.specs.Words.{Row}
 use Rattle.sb_words.specs.Asking.{AllFit, AreAllowed, AsksBy, Fits, IsFirstOf, IsFirstUnfit, IsUnfit}
 use Rattle.sb_words.specs.Arguments.{parts}
 use Rattle.sb_words.specs.declared.argument.Argument.{Argument}
-use Rattle.sb_words.specs.declared.argument.Argument.TheVariants.{Command, Old, New, Tenant, Load, DumpTo, Into, Journal, Sync, Keys, Status, Tenants, Bound, Cells, Workers, Port, Connections, Idle, IdleTransaction, FirstTenant, TenantMemory, Log, Slow, UntilInputEnds}
+use Rattle.sb_words.specs.declared.argument.Argument.TheVariants.{Command, Old, New, Tenant, Load, DumpTo, Into, Journal, Sync, Keys, Status, Tenants, Bound, Cells, Workers, Port, Connections, Idle, IdleTransaction, FirstTenant, TenantMemory, Log, Slow, Renew, UntilInputEnds}
 use Rattle.sb_words.specs.declared.argument.Unfit.{Unfit}
-use Rattle.sb_words.specs.declared.invocation.Invocation.{Invocation}
+use Rattle.sb_words.specs.Requests.{Request}
 
 none_first : (rows : List Row) (u : Unfit) (ps : List Argument) → AreAllowed rows → IsFirstOf rows u ps → ⊥
 none_first rows u [] allowed first = first
 none_first rows u (p ∷ ps) allowed (inl here) = allowed p u.text.now here.0
 none_first rows u (p ∷ ps) allowed (inr behind) = none_first rows u ps allowed behind.1
 
-pub asks_fit : (rows : List Row) (u : Unfit) (a : Invocation) → AsksBy rows a → IsFirstUnfit rows u → ⊥
+pub asks_fit : (rows : List Row) (u : Unfit) (a : Request) → AsksBy rows a → IsFirstUnfit rows u → ⊥
 asks_fit rows u a asks unfit = none_first rows u parts asks.0 unfit
 
 -- each part is one of all
@@ -41,7 +41,8 @@ all_allowed rows a FirstTenant = a.1.1.1.1.1.1.1.1.1.1.1.1.1.1.1.1.1.1.1.0
 all_allowed rows a TenantMemory = a.1.1.1.1.1.1.1.1.1.1.1.1.1.1.1.1.1.1.1.1.0
 all_allowed rows a Log = a.1.1.1.1.1.1.1.1.1.1.1.1.1.1.1.1.1.1.1.1.1.0
 all_allowed rows a Slow = a.1.1.1.1.1.1.1.1.1.1.1.1.1.1.1.1.1.1.1.1.1.1.0
-all_allowed rows a UntilInputEnds = a.1.1.1.1.1.1.1.1.1.1.1.1.1.1.1.1.1.1.1.1.1.1.1.0
+all_allowed rows a Renew = a.1.1.1.1.1.1.1.1.1.1.1.1.1.1.1.1.1.1.1.1.1.1.1.0
+all_allowed rows a UntilInputEnds = a.1.1.1.1.1.1.1.1.1.1.1.1.1.1.1.1.1.1.1.1.1.1.1.1.0
 
 -- ---- a part of a list
 

@@ -8,7 +8,7 @@ use Rattle.sb_words.specs.Arguments.{parts}
 use Rattle.sb_words.specs.Words.{AskFor, starhost}
 use Rattle.sb_words.specs.declared.argument.Argument.{Argument}
 use Rattle.sb_words.specs.declared.argument.Verb.TheVariants as verb
-use Rattle.sb_words.specs.declared.invocation.Invocation.TheVariants.{Run}
+use Rattle.sb_words.specs.Requests.{fresh, run}
 use Rattle.sb_words.proofs.Fitting.{all_allowed}
 
 -- none of these parts is given
@@ -29,7 +29,7 @@ all_fit rows [] none = tt
 all_fit rows (p ∷ ps) none = let each = both (is_none (text_at rows p)) (none_given rows ps) none in
     (λ text unfit. ungiven (text_at rows p) text each.0 unfit, all_fit rows ps each.1)
 
-pub no_word : (words : List Text) → length words ≤ 1 → AskFor words (Run (record { tenants = 16; bound = 1000 }))
+pub no_word : (words : List Text) → length words ≤ 1 → AskFor words (run (record { tenants = 16; bound = 1000 }) fresh)
 unfolding clap_on_literals
 no_word [] few = let rows = matches_of starhost [] in (refl, (all_allowed rows (all_fit rows parts refl), (verb.Run, refl, refl)))
 no_word (w ∷ []) few = let rows = matches_of starhost (w ∷ []) in (refl, (all_allowed rows (all_fit rows parts refl), (verb.Run, refl, refl)))

@@ -3,7 +3,7 @@ use Rattle.std.specs.Prelude.{◌==◌, ℕ, Bool, true, not, ◌||◌, List, []
 use Rattle.clap.specs.Words.{Text}
 use Rattle.sb_words.specs.Meanings.{meaning_of}
 use Rattle.sb_words.specs.declared.argument.Argument.{Argument}
-use Rattle.sb_words.specs.declared.argument.Argument.TheVariants.{Command, Old, New, Tenant, Load, DumpTo, Into, Journal, Sync, Keys, Status, Tenants, Bound, Cells, Workers, Port, Connections, Idle, IdleTransaction, FirstTenant, TenantMemory, Log, Slow, UntilInputEnds}
+use Rattle.sb_words.specs.declared.argument.Argument.TheVariants.{Command, Old, New, Tenant, Load, DumpTo, Into, Journal, Sync, Keys, Status, Tenants, Bound, Cells, Workers, Port, Connections, Idle, IdleTransaction, FirstTenant, TenantMemory, Log, Slow, Renew, UntilInputEnds}
 use Rattle.sb_words.specs.declared.argument.NumberRange.{NumberRange}
 use Rattle.sb_words.specs.declared.argument.Verb.{Verb}
 use Rattle.sb_words.specs.declared.argument.Verb.TheVariants.{Run, Serve, Replay, Parse, Dump, Compact, Key}
@@ -23,7 +23,7 @@ verb_in (Some word) = verb_of word
 -- the command first, files behind it, then options in the order in which they are looked at
 abbrev pub parts : List Argument
 parts = Command ∷ Old ∷ New ∷ Tenant ∷ Load ∷ DumpTo ∷ Into ∷ Journal ∷ Sync ∷ Keys ∷ Status ∷ Tenants ∷ Bound ∷ Cells ∷ Workers ∷ Port ∷ Connections ∷ Idle ∷ IdleTransaction ∷ FirstTenant
-    ∷ TenantMemory ∷ Log ∷ Slow ∷ UntilInputEnds ∷ []
+    ∷ TenantMemory ∷ Log ∷ Slow ∷ Renew ∷ UntilInputEnds ∷ []
 
 abbrev pub name_of : Argument → Text
 name_of Command = codes "command"
@@ -49,6 +49,7 @@ name_of FirstTenant = codes "first-tenant"
 name_of TenantMemory = codes "tenant-memory"
 name_of Log = codes "log"
 name_of Slow = codes "slow"
+name_of Renew = codes "renew"
 name_of UntilInputEnds = codes "until-input-ends"
 
 -- the place of a command among all

@@ -1,9 +1,11 @@
 -- Promise: what the parts of a command line ask for, and which of them isn't allowed.
 use Rattle.std.specs.Prelude.{◌≡◌, ◌≢◌, ◌≤◌, ◌⊎◌, ◌||◌, ⊤, ℕ, Bool, false, if◌then◌else◌, bytes_eq, List, [], ◌∷◌, Option, Some, None, option_map, is_some, unwrap_or, codes}
-use Rattle.std.specs.Borrow.{Bor}
 use Rattle.std.specs.Str.Parse.{IsNumeral, digits_value, without_leading_plus}
 use Rattle.clap.specs.Words.{Row, Text, first_of}
 use Rattle.sb_words.specs.Arguments.{has, name_of, parts, range_of, verb_in, verb_of}
+use Rattle.sb_words.specs.RenewPolicies.{renew_policy_of, usual_policy}
+use Rattle.sb_words.specs.Requests.{Beginning, Request, fresh, folder, journal}
+use Rattle.sb_words.specs.Requests as request
 use Rattle.sb_words.specs.Severities.{severity_of}
 use Rattle.sb_words.specs.Syncs.{syncs_of}
 use Rattle.sb_words.specs.declared.argument.Argument.{Argument}
@@ -13,20 +15,14 @@ use Rattle.sb_words.specs.declared.argument.Unfit.{Unfit}
 use Rattle.sb_words.specs.declared.argument.Verb.{Verb}
 use Rattle.sb_words.specs.declared.argument.Verb.TheVariants as verb
 use Rattle.sb_words.specs.declared.invocation.Dumping.{Dumping}
-use Rattle.sb_words.specs.declared.invocation.Paths.{Paths}
 use Rattle.sb_words.specs.declared.invocation.HostOptions.{HostOptions}
-use Rattle.sb_words.specs.declared.invocation.Invocation.{Invocation}
-use Rattle.sb_words.specs.declared.invocation.Invocation.TheVariants as request
 use Rattle.sb_words.specs.declared.invocation.Run.{Run}
 use Rattle.sb_words.specs.declared.invocation.ServerOptions.{ServerOptions}
+use Rattle.sb_words.specs.declared.renew_policy.RenewPolicy.{RenewPolicy}
 use Rattle.sb_words.specs.declared.severity.Severity.{Severity}
 use Rattle.sb_words.specs.declared.severity.Severity.TheVariants.{Info}
 use Rattle.sb_words.specs.declared.syncs.Syncs.{Syncs}
 use Rattle.sb_words.specs.declared.syncs.Syncs.TheVariants.{Always}
-
--- the text behind a reference that may be there
-abbrev pub text_of : Option (Bor Text) → Option Text
-text_of s = option_map (λ r. r.now) s
 
 -- an option without a value is `false` where it isn't given
 abbrev pub given_flag : Option Text → Option Text
@@ -59,17 +55,18 @@ abbrev pub LacksNumber : Option NumberRange → Text → Type 0
 LacksNumber None text = ⊥
 LacksNumber (Some range) text = IsNumber range text → ⊥
 
--- there is no such command, or it lacks its files
+-- there is no such command, or it lacks one of its files
 abbrev pub LacksCommand : List Row → Option Verb → Type 0
 LacksCommand rows None = ⊤
-LacksCommand rows (Some verb.Compact) = text_at rows part.New ≡ None
+LacksCommand rows (Some verb.Compact) = (text_at rows part.Old ≡ None) ⊎ (text_at rows part.New ≡ None)
 LacksCommand rows (Some v) = ⊥
 
 -- there is no such word, or it doesn't go with what else is given: one tenant with all, files with a journal, a sync without one
 abbrev pub LacksWord : List Row → Argument → Text → Type 0
 LacksWord rows part.Command word = LacksCommand rows (verb_of word)
 LacksWord rows part.Log word = severity_of word ≡ None
-LacksWord rows part.Into folder = text_at rows part.Tenant ≢ None
+LacksWord rows part.Renew word = renew_policy_of word ≡ None
+LacksWord rows part.Into path = text_at rows part.Tenant ≢ None
 LacksWord rows part.Journal file = text_at rows part.Load ≢ None
 LacksWord rows part.Sync word = (syncs_of word ≡ None) ⊎ (text_at rows part.Journal ≡ None)
 LacksWord rows p text = ⊥
@@ -121,6 +118,14 @@ abbrev pub severity_in : Option Text → Severity
 severity_in None = Info
 severity_in (Some word) = unwrap_or (severity_of word) Info
 
+-- which tenants a server renews by itself
+abbrev pub renew_by : Option Text → RenewPolicy → RenewPolicy
+renew_by None usual = usual
+renew_by (Some word) usual = unwrap_or (renew_policy_of word) usual
+
+abbrev pub renew_in : List Row → RenewPolicy
+renew_in rows = renew_by (text_at rows part.Renew) (usual_policy (is_some (text_at rows part.Journal)))
+
 abbrev pub run_in : List Row → Run
 run_in rows = record { tenants = number_in rows part.Tenants; bound = number_in rows part.Bound }
 
@@ -147,39 +152,32 @@ serving_in rows = record {
   until_input_ends = is_some (text_at rows part.UntilInputEnds);
   status = status_in rows;
   slow = number_in rows part.Slow;
+  renew = renew_in rows;
 }
 
--- whether a server has files or status pages
-abbrev pub has_more : List Row → Bool
-has_more rows =
-    is_some (text_at rows part.Load) || is_some (text_at rows part.DumpTo) || is_some (text_at rows part.Journal) || is_some (text_at rows part.Keys)
-    || is_some (text_at rows part.Status)
+-- the tenants that a run or a server begins with
+abbrev pub begins_by : Option Text → Option Text → Syncs → Beginning
+begins_by (Some path) file syncs = folder path
+begins_by None (Some file) syncs = journal file syncs
+begins_by None None syncs = fresh
 
--- a run without files: a journal makes another of it
-abbrev pub recorded_by : List Row → Invocation
-recorded_by rows = if is_some (text_at rows part.Journal) then request.Record (run_in rows) else request.Run (run_in rows)
+abbrev pub begins_in : List Row → Beginning
+begins_in rows = begins_by (text_at rows part.Load) (text_at rows part.Journal) (syncs_in (text_at rows part.Sync))
 
--- what a command asks for: files and status pages make others of a run, a server and a dump
-abbrev pub asked_by : Verb → List Row → Invocation
-asked_by verb.Run rows = if is_some (text_at rows part.Load) then request.Load (run_in rows) else recorded_by rows
-asked_by verb.Serve rows = if has_more rows then request.Keep (serving_in rows) else request.Serve (serving_in rows)
-asked_by verb.Replay rows = request.Replay (hosting_in rows)
-asked_by verb.Parse rows = request.Parse
-asked_by verb.Dump rows = if is_some (text_at rows part.Into) then request.DumpAll (run_in rows) else request.Dump (dumping_in rows)
-asked_by verb.Compact rows = request.Compact (run_in rows)
-asked_by verb.Key rows = request.Key
+-- the path that stands there
+abbrev pub path_in : List Row → Argument → Text
+path_in rows p = unwrap_or (text_at rows p) []
+
+-- what a command asks for
+abbrev pub asked_by : Verb → List Row → Request
+asked_by verb.Run rows = request.run (run_in rows) (begins_in rows)
+asked_by verb.Serve rows = request.serve (serving_in rows) (begins_in rows) (text_at rows part.DumpTo) (text_at rows part.Keys)
+asked_by verb.Replay rows = request.replay (hosting_in rows)
+asked_by verb.Parse rows = request.parse
+asked_by verb.Dump rows = request.dump (dumping_in rows) (text_at rows part.Into)
+asked_by verb.Compact rows = request.compact (run_in rows) (path_in rows part.Old) (path_in rows part.New)
+asked_by verb.Key rows = request.key
 
 -- all parts are allowed, and it is what the command asks for
-abbrev pub AsksBy : List Row → Invocation → Type 0
+abbrev pub AsksBy : List Row → Request → Type 0
 AsksBy rows r = AreAllowed rows × ((v : Verb) × (verb_in (text_at rows part.Command) ≡ Some v) × (r ≡ asked_by v rows))
-
--- the folders and files that are given
-pub record ArePaths (rows : List Row) (paths : Paths) : Type 0 where
-  pub load : text_of paths.load ≡ text_at rows part.Load
-  pub dump_to : text_of paths.dump_to ≡ text_at rows part.DumpTo
-  pub into : text_of paths.into ≡ text_at rows part.Into
-  pub journal : text_of paths.journal ≡ text_at rows part.Journal
-  pub syncs : paths.syncs ≡ syncs_in (text_at rows part.Sync)
-  pub keys : text_of paths.keys ≡ text_at rows part.Keys
-  pub old : text_of paths.old ≡ text_at rows part.Old
-  pub new : text_of paths.new ≡ text_at rows part.New

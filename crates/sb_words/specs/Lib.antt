@@ -1,7 +1,9 @@
 pub mod Meanings
 pub mod Severities
 pub mod Syncs
+pub mod RenewPolicies
 pub mod Arguments
+pub mod Requests
 pub mod Within
 pub mod Asking
 pub mod Words

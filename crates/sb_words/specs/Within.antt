@@ -3,7 +3,7 @@ use Rattle.std.specs.Prelude.{◌≤◌, IfSome, ⊤}
 use Rattle.sb_words.specs.declared.invocation.Dumping.{Dumping}
 use Rattle.sb_words.specs.declared.invocation.HostOptions.{HostOptions}
 use Rattle.sb_words.specs.declared.invocation.Invocation.{Invocation}
-use Rattle.sb_words.specs.declared.invocation.Invocation.TheVariants.{Run as run_request, Load, Record, Serve, Keep, Replay, Parse, Dump, DumpAll, Compact, Key}
+use Rattle.sb_words.specs.declared.invocation.Invocation.TheVariants as invocation
 use Rattle.sb_words.specs.declared.invocation.Run.{Run}
 use Rattle.sb_words.specs.declared.invocation.ServerOptions.{ServerOptions}
 use Rattle.sb_words.specs.declared.words.Asked.{Asked}
@@ -24,18 +24,14 @@ AreServer s =
     × (s.first_tenant ≤ 999999000) × (s.tenant_memory ≤ 1048576) × IfSome s.status (λ port. port ≤ 65535) × (s.slow ≤ 86400000)
 
 abbrev pub IsWithin : Invocation → Type 0
-IsWithin (run_request r) = AreRun r
-IsWithin (Load r) = AreRun r
-IsWithin (Record r) = AreRun r
-IsWithin (Serve s) = AreServer s
-IsWithin (Keep s) = AreServer s
-IsWithin (Replay h) = AreHost h
-IsWithin Parse = ⊤
-IsWithin (Dump d) = AreDump d
-IsWithin (DumpAll r) = AreRun r
-IsWithin (Compact r) = AreRun r
-IsWithin Key = ⊤
+IsWithin (invocation.Run words) = AreRun words.run
+IsWithin (invocation.Serve words) = AreServer words.options
+IsWithin (invocation.Replay h) = AreHost h
+IsWithin invocation.Parse = ⊤
+IsWithin (invocation.Dump words) = AreDump words.dump
+IsWithin (invocation.Compact words) = AreRun words.run
+IsWithin invocation.Key = ⊤
 
 abbrev pub AreWithin : Asked → Type 0
-AreWithin (For r f) = IsWithin r
+AreWithin (For i) = IsWithin i
 AreWithin other = ⊤

@@ -4,13 +4,12 @@ use Rattle.clap.specs.Words.{App, IsAmong, Rule, Text, fault_of, matches_of, new
 use Rattle.clap.specs.declared.builder.action.ArgAction.TheVariants.{SetTrue}
 use Rattle.clap.specs.declared.error.kind.ErrorKind.{ErrorKind}
 use Rattle.clap.specs.declared.error.kind.ErrorKind.TheVariants.{DisplayHelp, DisplayVersion}
-use Rattle.sb_words.specs.Asking.{ArePaths, AsksBy, IsFirstUnfit}
+use Rattle.sb_words.specs.Asking.{AsksBy, IsFirstUnfit}
 use Rattle.sb_words.specs.Arguments.{name_of, parts}
 use Rattle.sb_words.specs.declared.argument.Argument.{Argument}
 use Rattle.sb_words.specs.declared.argument.Argument.TheVariants.{Command, Old, New, UntilInputEnds}
 use Rattle.sb_words.specs.declared.argument.Unfit.{Unfit}
-use Rattle.sb_words.specs.declared.invocation.Invocation.{Invocation}
-use Rattle.sb_words.specs.declared.invocation.Invocation.TheVariants.{Run}
+use Rattle.sb_words.specs.Requests.{Request, fresh, request_of, run}
 use Rattle.sb_words.specs.declared.words.Asked.{Asked}
 use Rattle.sb_words.specs.declared.words.Asked.TheVariants.{For, Help, Version, Refused, NotAllowed}
 
@@ -36,7 +35,7 @@ abbrev pub starhost : App
 starhost = with_parts (with_version (new_app (codes "starhost"))) parts
 
 -- These words, the program's name first, ask for a command: clap finds no fault in them, and what it finds does.
-abbrev pub AskFor : List Text → Invocation → Type 0
+abbrev pub AskFor : List Text → Request → Type 0
 AskFor words r = (fault_of starhost words ≡ []) × AsksBy (matches_of starhost words) r
 
 abbrev pub AskForHelp : List Text → Type 0
@@ -53,9 +52,9 @@ HasFault words = (kind : ErrorKind) × IsAmong kind (fault_of starhost words) ×
 abbrev pub HaveUnfit : List Text → Unfit → Type 0
 HaveUnfit words u = (fault_of starhost words ≡ []) × IsFirstUnfit (matches_of starhost words) u
 
--- it is what the words ask for, with the paths that they name
+-- it is what the words ask for
 abbrev pub IsAsked : List Text → Asked → Type 0
-IsAsked words (For r f) = AskFor words r × ArePaths (matches_of starhost words) f
+IsAsked words (For i) = AskFor words (request_of i)
 IsAsked words Help = AskForHelp words
 IsAsked words Version = AskForVersion words
 IsAsked words (Refused e) = HasFault words
@@ -63,16 +62,16 @@ IsAsked words (NotAllowed u) = HaveUnfit words u
 
 -- words ask for one command at most
 abbrev pub AskOnce : Type 0
-AskOnce = (words : List Text) (a b : Invocation) → AskFor words a → AskFor words b → a ≡ b
+AskOnce = (words : List Text) (a b : Request) → AskFor words a → AskFor words b → a ≡ b
 
 -- words without a fault are no question, and with one no command
 abbrev pub AskForOneThing : Type 0
-AskForOneThing = (words : List Text) (a : Invocation) → AskFor words a → (kind : ErrorKind) → IsAmong kind (fault_of starhost words) → ⊥
+AskForOneThing = (words : List Text) (a : Request) → AskFor words a → (kind : ErrorKind) → IsAmong kind (fault_of starhost words) → ⊥
 
 -- words of which a part isn't allowed ask for nothing
 abbrev pub UnfitAskForNothing : Type 0
-UnfitAskForNothing = (words : List Text) (u : Unfit) → HaveUnfit words u → (a : Invocation) → AskFor words a → ⊥
+UnfitAskForNothing = (words : List Text) (u : Unfit) → HaveUnfit words u → (a : Request) → AskFor words a → ⊥
 
 -- no word behind the name asks for a run of 16 tenants, with 1,000 considerations
 abbrev pub NoWordAsksForRun : Type 0
-NoWordAsksForRun = (words : List Text) → length words ≤ 1 → AskFor words (Run (record { tenants = 16; bound = 1000 }))
+NoWordAsksForRun = (words : List Text) → length words ≤ 1 → AskFor words (run (record { tenants = 16; bound = 1000 }) fresh)

@@ -40,11 +40,12 @@ pub enum Argument {
     TenantMemory,
     Log,
     Slow,
+    Renew,
     UntilInputEnds,
 }
 
 /// The parts, in the order in which they are looked at.
-pub(crate) const PARTS: [Argument; 24] = [
+pub(crate) const PARTS: [Argument; 25] = [
     Argument::Command,
     Argument::Old,
     Argument::New,
@@ -68,6 +69,7 @@ pub(crate) const PARTS: [Argument; 24] = [
     Argument::TenantMemory,
     Argument::Log,
     Argument::Slow,
+    Argument::Renew,
     Argument::UntilInputEnds,
 ];
 
@@ -108,6 +110,7 @@ impl Argument {
             Argument::TenantMemory => "tenant-memory",
             Argument::Log => "log",
             Argument::Slow => "slow",
+            Argument::Renew => "renew",
             Argument::UntilInputEnds => "until-input-ends",
         }
     }

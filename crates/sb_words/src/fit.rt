@@ -8,7 +8,7 @@ ghost use Rattle.sb_words.specs.declared.argument.Argument.TheVariants as named;
 
 use crate::argument::{Argument, PARTS, Unfit, Verb};
 use crate::given::text_at;
-use crate::meaning::{SEVERITIES, SYNCS, VERBS, meaning_of};
+use crate::meaning::{RENEW_POLICIES, SEVERITIES, SYNCS, VERBS, meaning_of};
 use crate::number::number;
 use clap::ArgMatches;
 
@@ -99,6 +99,7 @@ fn lacks_word(matches: &ArgMatches<'_>, part: Argument, text: &str) -> bool
     match part {
         Argument::Command => lacks_command(matches, meaning_of(text, &VERBS)),
         Argument::Log => meaning_of(text, &SEVERITIES).is_none(),
+        Argument::Renew => meaning_of(text, &RENEW_POLICIES).is_none(),
         Argument::Into => text_at(matches, Argument::Tenant).is_some(),
         Argument::Journal => text_at(matches, Argument::Load).is_some(),
         Argument::Sync => meaning_of(text, &SYNCS).is_none()
@@ -107,13 +108,14 @@ fn lacks_word(matches: &ArgMatches<'_>, part: Argument, text: &str) -> bool
     }
 }
 
-/// True if there is no such command, or it lacks its files.
+/// True if there is no such command, or it lacks one of its files.
 fn lacks_command(matches: &ArgMatches<'_>, verb: Option<Verb>) -> bool
     ensures { IsTrue result ↔ LacksCommand (rows_of (found_of matches.now)) verb }
 {
     match verb {
         None => true,
-        Some(Verb::Compact) => text_at(matches, Argument::New).is_none(),
+        Some(Verb::Compact) => text_at(matches, Argument::Old).is_none()
+            || text_at(matches, Argument::New).is_none(),
         Some(_) => false,
     }
 }

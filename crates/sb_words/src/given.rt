@@ -2,7 +2,8 @@
 ghost use Rattle.std.specs.Prelude.{◌≡◌, ◌≤◌, IfSome};
 ghost use Rattle.clap.specs.Words.{rows_of, found_of};
 ghost use Rattle.sb_words.specs.Asking as spec;
-ghost use Rattle.sb_words.specs.Asking.{Fits, given_flag, text_of};
+ghost use Rattle.sb_words.specs.Asking.{Fits, given_flag};
+ghost use Rattle.sb_words.specs.Requests.{text_of};
 ghost use Rattle.sb_words.specs.Arguments.{range_of};
 
 use crate::argument::Argument;

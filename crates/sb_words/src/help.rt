@@ -9,7 +9,7 @@ pub const ALLOWED: &str =
 never with --journal; of dump --tenant 0 to 255, or --into a folder; of serve and replay --cells 1 to 16, --workers 1 \
 to 16; of serve --port 0 to 65535, --connections 0 to 1000000, --idle 0 to 86400, --idle-transaction 0 to 86400, \
 --first-tenant 0 to 999999000, --tenant-memory 0 to 1048576, --log error, warning or info, --slow 0 to 86400000, \
---until-input-ends, --dump-to a folder, --keys a file, --status 0 to 65535; --help, --version\n";
+--renew auto or never, --until-input-ends, --dump-to a folder, --keys a file, --status 0 to 65535; --help, --version\n";
 
 pub const HELP: &str = "\
 starhost answers the command lines of hosted active databases.
@@ -80,6 +80,10 @@ Options of serve:
   --slow MILLISECONDS
                  log a line that took so long: 0 to 86400000, or else 1000;
                  where it is 0, none
+  --renew WORD   auto: a tenant whose trail or memory is nearly full is renewed
+                 while its connections stay open; never: none is that isn't
+                 asked for at --status; or else auto with --journal, and never
+                 without it
   --until-input-ends
                  stop where standard input ends
   --dump-to FOLDER

@@ -4,13 +4,15 @@ ghost use Rattle.clap.specs.Words.{rows_of, found_of};
 ghost use Rattle.sb_words.specs.Asking as spec;
 ghost use Rattle.sb_words.specs.Asking.{AreAllowed, AsksBy, IsFirstUnfit, text_at};
 ghost use Rattle.sb_words.specs.Arguments.{verb_in};
+ghost use Rattle.sb_words.specs.Requests.{beginning_of, request_of, text_of};
 ghost use Rattle.sb_words.specs.Within.{AreHost, AreRun, AreServer, IsWithin};
 ghost use Rattle.sb_words.specs.declared.argument.Argument.TheVariants as named;
 
 use crate::argument::{Argument, Unfit, Verb};
 use crate::fit::first_unfit;
 use crate::given::{number_at, text_at};
-use crate::meaning::{SEVERITIES, SYNCS, meaning_of};
+use crate::meaning::{RENEW_POLICIES, SEVERITIES, SYNCS, meaning_of};
+use crate::renew_policy::RenewPolicy;
 use crate::severity::Severity;
 use crate::syncs::Syncs;
 use clap::ArgMatches;
@@ -40,8 +42,8 @@ pub struct HostOptions {
 /// A server: a host, the port that it listens at (0: any free one), how many connections it serves
 /// (0: without end), after how many idle seconds it closes one, and one with a transaction (0: never),
 /// the number of its first tenant, how many megabytes each tenant may take (0: any number), what it logs, whether it stops
-/// where its input ends, the port of its status pages (0: any free one), if it has some, and how many milliseconds a line
-/// takes that is logged as slow (0: none is).
+/// where its input ends, the port of its status pages (0: any free one), if it has some, how many milliseconds a line
+/// takes that is logged as slow (0: none is), and which tenants it renews by itself.
 #[derive(Clone, Copy, Debug)]
 pub struct ServerOptions {
     pub hosting: HostOptions,
@@ -55,54 +57,78 @@ pub struct ServerOptions {
     pub until_input_ends: bool,
     pub status: Option<u32>,
     pub slow: u32,
+    pub renew: RenewPolicy,
 }
 
-/// A command with its options.
+/// The file of a journal, and when each of its records is brought to the disk.
 #[derive(Clone, Copy, Debug)]
-pub enum Invocation {
-    Run(Run),
-    /// A run on tenants that are read from files.
-    Load(Run),
-    /// A run whose lines are recorded in a journal.
-    Record(Run),
-    Serve(ServerOptions),
-    /// A server that reads its tenants from files, writes them to files, or has a journal, keys or status pages.
-    Keep(ServerOptions),
+pub struct JournalWords<'a> {
+    pub path: &'a str,
+    pub syncs: Syncs,
+}
+
+/// The tenants that a run or a server begins with.
+#[derive(Clone, Copy, Debug)]
+pub enum Origin<'a> {
+    /// They are new.
+    Fresh,
+    /// They are made from the files of this folder.
+    Folder(&'a str),
+    /// They are as this journal leaves them, and what they are answered is recorded in it.
+    Journal(JournalWords<'a>),
+}
+
+/// A run: its numbers, and the tenants that it begins with.
+#[derive(Clone, Copy, Debug)]
+pub struct RunWords<'a> {
+    pub run: Run,
+    pub origin: Origin<'a>,
+}
+
+/// A server: its options, and the tenants that it begins with.
+#[derive(Clone, Copy, Debug)]
+pub struct ServeWords<'a> {
+    pub options: ServerOptions,
+    pub origin: Origin<'a>,
+    /// Its tenants are written to this folder behind the last connection.
+    pub dump_to: Option<&'a str>,
+    /// The file of the keys that clients need.
+    pub keys: Option<&'a str>,
+}
+
+/// A dump of one tenant on standard output.
+#[derive(Clone, Copy, Debug)]
+pub struct DumpWords<'a> {
+    pub dump: Dumping,
+    /// In place of that, each tenant that the input opened is written to this folder.
+    pub into: Option<&'a str>,
+}
+
+/// A journal of so many tenants that is written anew.
+#[derive(Clone, Copy, Debug)]
+pub struct CompactWords<'a> {
+    pub run: Run,
+    pub old: &'a str,
+    /// The path of the new one.
+    pub new: &'a str,
+}
+
+/// A command with its words.
+#[derive(Clone, Copy, Debug)]
+pub enum Invocation<'a> {
+    Run(RunWords<'a>),
+    Serve(ServeWords<'a>),
     Replay(HostOptions),
     Parse,
-    Dump(Dumping),
-    /// A dump of each tenant that the input opened, to files.
-    DumpAll(Run),
-    /// A journal of so many tenants, written anew.
-    Compact(Run),
+    Dump(DumpWords<'a>),
+    Compact(CompactWords<'a>),
     /// The digest of a key.
     Key,
 }
 
-/// Folders and files.
-#[derive(Clone, Copy)]
-pub struct Paths<'a> {
-    /// Tenants are read from this folder first.
-    pub load: Option<&'a str>,
-    /// A server's are written there behind the last connection.
-    pub dump_to: Option<&'a str>,
-    /// Those of an input are written there.
-    pub into: Option<&'a str>,
-    /// The file of a journal.
-    pub journal: Option<&'a str>,
-    /// When each of its records is brought to the disk.
-    pub syncs: Syncs,
-    /// The file of the keys that clients need.
-    pub keys: Option<&'a str>,
-    /// The journal that is written anew.
-    pub old: Option<&'a str>,
-    /// Where it is written.
-    pub new: Option<&'a str>,
-}
-
-/// The command with its options that is asked for, or the first part that isn't allowed.
-pub(crate) fn requested<'a>(matches: &ArgMatches<'a>) -> Result<Invocation, Unfit<'a>>
-    ensures asked { IfOk result (AsksBy (rows_of (found_of matches.now))) }
+/// The command with its words that is asked for, or the first part that isn't allowed.
+pub(crate) fn requested<'a>(matches: &ArgMatches<'a>) -> Result<Invocation<'a>, Unfit<'a>>
+    ensures asked { IfOk result (λ i. AsksBy (rows_of (found_of matches.now)) (request_of i)) }
     ensures unfit { IfErr result (IsFirstUnfit (rows_of (found_of matches.now))) }
     ensures within { IfOk result IsWithin }
 {
@@ -113,52 +139,51 @@ pub(crate) fn requested<'a>(matches: &ArgMatches<'a>) -> Result<Invocation, Unfi
 }
 
 /// What a command asks for by its options.
-fn asked_by(matches: &ArgMatches<'_>, verb: Verb) -> Invocation
+fn asked_by<'a>(matches: &ArgMatches<'a>, verb: Verb) -> Invocation<'a>
     requires { AreAllowed (rows_of (found_of matches.now)) }
-    ensures asked { result ≡ spec.asked_by verb (rows_of (found_of matches.now)) }
+    ensures asked { request_of result ≡ spec.asked_by verb (rows_of (found_of matches.now)) }
     ensures within { IsWithin result }
 {
     match verb {
-        Verb::Run => match text_at(matches, Argument::Load) {
-            Some(_) => Invocation::Load(run_of(matches)),
-            None => recorded_by(matches),
-        },
-        Verb::Serve => match has_more(matches) {
-            true => Invocation::Keep(serving_of(matches)),
-            false => Invocation::Serve(serving_of(matches)),
-        },
+        Verb::Run => Invocation::Run(RunWords {
+            run: run_of(matches),
+            origin: origin_of(matches),
+        }),
+        Verb::Serve => Invocation::Serve(ServeWords {
+            options: serving_of(matches),
+            origin: origin_of(matches),
+            dump_to: text_at(matches, Argument::DumpTo),
+            keys: text_at(matches, Argument::Keys),
+        }),
         Verb::Replay => Invocation::Replay(hosting_of(matches)),
         Verb::Parse => Invocation::Parse,
-        Verb::Dump => match text_at(matches, Argument::Into) {
-            Some(_) => Invocation::DumpAll(run_of(matches)),
-            None => Invocation::Dump(dumping_of(matches)),
-        },
-        Verb::Compact => Invocation::Compact(run_of(matches)),
+        Verb::Dump => Invocation::Dump(DumpWords {
+            dump: dumping_of(matches),
+            into: text_at(matches, Argument::Into),
+        }),
+        Verb::Compact => Invocation::Compact(CompactWords {
+            run: run_of(matches),
+            old: text_at(matches, Argument::Old).unwrap_or(""),
+            new: text_at(matches, Argument::New).unwrap_or(""),
+        }),
         Verb::Key => Invocation::Key,
     }
 }
 
-/// What a run asks for that reads no tenants from files.
-fn recorded_by(matches: &ArgMatches<'_>) -> Invocation
-    requires { AreAllowed (rows_of (found_of matches.now)) }
-    ensures asked { result ≡ spec.recorded_by (rows_of (found_of matches.now)) }
-    ensures within { IsWithin result }
+/// The tenants that a run or a server begins with.
+fn origin_of<'a>(matches: &ArgMatches<'a>) -> Origin<'a>
+    ensures { beginning_of result ≡ spec.begins_in (rows_of (found_of matches.now)) }
 {
-    match text_at(matches, Argument::Journal) {
-        Some(_) => Invocation::Record(run_of(matches)),
-        None => Invocation::Run(run_of(matches)),
+    if let Some(folder) = text_at(matches, Argument::Load) {
+        return Origin::Folder(folder);
     }
-}
-
-/// True if a server has files or status pages.
-fn has_more(matches: &ArgMatches<'_>) -> bool
-    ensures { result ≡ spec.has_more (rows_of (found_of matches.now)) }
-{
-    text_at(matches, Argument::Load).is_some()
-        || text_at(matches, Argument::DumpTo).is_some()
-        || text_at(matches, Argument::Journal).is_some()
-        || text_at(matches, Argument::Keys).is_some()
-        || text_at(matches, Argument::Status).is_some()
+    match text_at(matches, Argument::Journal) {
+        Some(path) => Origin::Journal(JournalWords {
+            path,
+            syncs: syncs_in(text_at(matches, Argument::Sync)),
+        }),
+        None => Origin::Fresh,
+    }
 }
 
 fn run_of(matches: &ArgMatches<'_>) -> Run
@@ -214,6 +239,7 @@ fn serving_of(matches: &ArgMatches<'_>) -> ServerOptions
         until_input_ends: text_at(matches, Argument::UntilInputEnds).is_some(),
         status: status_at(matches),
         slow: number_at(matches, Argument::Slow),
+        renew: renew_of(matches),
     }
 }
 
@@ -239,25 +265,23 @@ fn severity_at(matches: &ArgMatches<'_>) -> Severity
     }
 }
 
-/// The folders and files that are given.
-pub(crate) fn paths_of<'a>(matches: &ArgMatches<'a>) -> Paths<'a>
-    ensures { spec.ArePaths (rows_of (found_of matches.now)) result }
+/// Which tenants a server renews by itself.
+fn renew_of(matches: &ArgMatches<'_>) -> RenewPolicy
+    ensures { result ≡ spec.renew_in (rows_of (found_of matches.now)) }
 {
-    Paths {
-        load: text_at(matches, Argument::Load),
-        dump_to: text_at(matches, Argument::DumpTo),
-        into: text_at(matches, Argument::Into),
-        journal: text_at(matches, Argument::Journal),
-        syncs: syncs_in(text_at(matches, Argument::Sync)),
-        keys: text_at(matches, Argument::Keys),
-        old: text_at(matches, Argument::Old),
-        new: text_at(matches, Argument::New),
+    let usual = match text_at(matches, Argument::Journal) {
+        Some(_) => RenewPolicy::Auto,
+        None => RenewPolicy::Never,
+    };
+    match text_at(matches, Argument::Renew) {
+        Some(word) => meaning_of(word, &RENEW_POLICIES).unwrap_or(usual),
+        None => usual,
     }
 }
 
 /// When a journal's records are brought to the disk.
 fn syncs_in(word: Option<&str>) -> Syncs
-    ensures { result ≡ spec.syncs_in (spec.text_of word.entry) }
+    ensures { result ≡ spec.syncs_in (text_of word.entry) }
 {
     match word {
         Some(word) => meaning_of(word, &SYNCS).unwrap_or(Syncs::Always),

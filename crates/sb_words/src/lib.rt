@@ -12,6 +12,7 @@ mod log;
 mod meaning;
 mod number;
 mod refusal;
+mod renew_policy;
 mod severity;
 mod syncs;
 mod words;
@@ -19,10 +20,14 @@ mod words;
 pub use argument::{Argument, NumberRange, Unfit, Verb};
 pub use clap::Error;
 pub use help::{ALLOWED, HELP, VERSION};
-pub use invocation::{Dumping, HostOptions, Invocation, Paths, Run, ServerOptions};
+pub use invocation::{
+    CompactWords, DumpWords, Dumping, HostOptions, Invocation, JournalWords, Origin, Run, RunWords,
+    ServeWords, ServerOptions,
+};
 pub use laws::words_ask_once;
 pub use log::Log;
 pub use refusal::refusal_line;
+pub use renew_policy::RenewPolicy;
 pub use severity::Severity;
 pub use syncs::Syncs;
 pub use words::{Asked, read_words};

@@ -3,6 +3,7 @@ ghost use Rattle.std.specs.Prelude.{◌≡◌};
 ghost use Rattle.sb_words.specs.Meanings as spec;
 
 use crate::argument::Verb;
+use crate::renew_policy::RenewPolicy;
 use crate::severity::Severity;
 use crate::syncs::Syncs;
 
@@ -29,6 +30,12 @@ pub(crate) const SYNCS: [(&str, Syncs); 3] = [
     ("always", Syncs::Always),
     ("second", Syncs::Second),
     ("never", Syncs::Never),
+];
+
+/// Which tenants a server renews by itself.
+pub(crate) const RENEW_POLICIES: [(&str, RenewPolicy); 2] = [
+    ("auto", RenewPolicy::Auto),
+    ("never", RenewPolicy::Never),
 ];
 
 /// What a word stands for, if it is one of the table.

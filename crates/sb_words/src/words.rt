@@ -5,7 +5,7 @@ ghost use Rattle.sb_words.specs.Within.{AreWithin};
 ghost use Rattle.sb_words.specs.Words.{IsAsked, rule_of, starhost, with_parts};
 
 use crate::argument::{Argument, PARTS, Unfit};
-use crate::invocation::{Invocation, Paths, paths_of, requested};
+use crate::invocation::{Invocation, requested};
 use clap::error::ErrorKind;
 use clap::{Arg, ArgAction, ArgMatches, Command, Error};
 use std::alloc::{AllocError, Global};
@@ -14,8 +14,7 @@ use std::convert::AsStr;
 /// What a command line asks for.
 #[derive(Drop)]
 pub enum Asked<'a> {
-    /// A command, and the folders and files that it reads and writes.
-    For(Invocation, Paths<'a>),
+    For(Invocation<'a>),
     Help,
     Version,
     /// clap finds a fault in the words.
@@ -31,7 +30,7 @@ pub fn read_words<'a, S: AsStr>(alloc: Global, words: &'a [S]) -> Result<Asked<'
 {
     match matches_in(alloc, words) {
         Ok(matches) => match requested(&matches) {
-            Ok(request) => Ok(Asked::For(request, paths_of(&matches))),
+            Ok(asked) => Ok(Asked::For(asked)),
             Err(unfit) => Ok(Asked::NotAllowed(unfit)),
         },
         Err(error) => match error.kind() {
