@@ -7,9 +7,9 @@ use Rattle.std.specs.Str.Parse.{AllDigits, IsNumeral}
 use Rattle.std.proofs.lemmas.List.{append_cancel_left, append_cancel_right}
 use Rattle.std.proofs.lemmas.Str.{IsUtf8-from_ascii}
 use Rattle.std.proofs.lemmas.Str.Parse.{digit_from_value}
-use Rattle.sb_status.specs.Routes.{IsNumber, IsTarget, Names, NamesBehind, NamesSession, NamesWithout, StandsBehind}
+use Rattle.sb_status.specs.Routes.{IsNumber, IsTarget, Names, NamesAlone, NamesBehind, NamesSession, NamesWithout, StandsBehind}
 use Rattle.sb_status.specs.declared.route.Route.{Route}
-use Rattle.sb_status.specs.declared.route.Route.TheVariants.{Host, Metrics, Tenant, Dump, End, Unknown}
+use Rattle.sb_status.specs.declared.route.Route.TheVariants.{Host, Metrics, Tenant, Dump, End, Renew, Unknown}
 use Rattle.sb_status.specs.declared.route.Ended.{Ended}
 
 -- ---- the last byte
@@ -66,17 +66,29 @@ ends_in_digit text n is = by_digits (λ l. IsInRange 48 57 (last_of l)) plain wi
     with_plus [] digits = absurd (omega (arith, digits.0))
     with_plus (c ∷ cs) digits = last_digit c cs digits.1
 
--- no number ends as a script's target or an end's
+-- no number ends as a script's target does, an end's or a renewal's
 no_number : (b c : ℕ) (front bs : List ℕ) (text : List ℕ) (n : ℕ) → text ≡ front ++ b ∷ bs → last_of (b ∷ bs) ≡ c → 57 < c → IsNumber text n → ⊥
 no_number b c front bs text n is ends high number =
     let digit = ends_in_digit text n number in
     let last : last_of text ≡ c = ap last_of is ∙ last_behind front b bs ∙ ends in
     omega (arith, digit, last, high)
 
+-- two ends of one text have the same last byte
+same_last : (rest front digits : List ℕ) (b : ℕ) (bs : List ℕ) (c : ℕ) (cs : List ℕ) → rest ≡ front ++ b ∷ bs → rest ≡ digits ++ c ∷ cs
+    → last_of (b ∷ bs) ≡ last_of (c ∷ cs)
+same_last rest front digits b bs c cs one two = sym (last_behind front b bs) ∙ sym (ap last_of one) ∙ ap last_of two ∙ last_behind digits c cs
+
 dump_or_end : (rest front digits : List ℕ) → rest ≡ front ++ codes "/end" → rest ≡ digits ++ codes "/dump" → ⊥
 dump_or_end rest front digits one two =
-    let e : 100 ≡ 112 = sym (last_behind front 47 (101 ∷ 110 ∷ 100 ∷ [])) ∙ sym (ap last_of one) ∙ ap last_of two ∙ last_behind digits 47 (100 ∷ 117 ∷ 109 ∷ 112 ∷ []) in
-    omega (arith, e)
+    let e : 100 ≡ 112 = same_last rest front digits 47 (101 ∷ 110 ∷ 100 ∷ []) 47 (100 ∷ 117 ∷ 109 ∷ 112 ∷ []) one two in omega (arith, e)
+
+renew_or_end : (rest front digits : List ℕ) → rest ≡ front ++ codes "/end" → rest ≡ digits ++ codes "/renew" → ⊥
+renew_or_end rest front digits one two =
+    let e : 100 ≡ 119 = same_last rest front digits 47 (101 ∷ 110 ∷ 100 ∷ []) 47 (114 ∷ 101 ∷ 110 ∷ 101 ∷ 119 ∷ []) one two in omega (arith, e)
+
+renew_or_dump : (rest front digits : List ℕ) → rest ≡ front ++ codes "/dump" → rest ≡ digits ++ codes "/renew" → ⊥
+renew_or_dump rest front digits one two =
+    let e : 112 ≡ 119 = same_last rest front digits 47 (100 ∷ 117 ∷ 109 ∷ 112 ∷ []) 47 (114 ∷ 101 ∷ 110 ∷ 101 ∷ 119 ∷ []) one two in omega (arith, e)
 
 -- ---- where a number isn't one
 
@@ -86,6 +98,7 @@ no_dump_number rest digits is none (Tenant n) number = no_number 47 112 digits (
 no_dump_number rest digits is none (Dump n) (others, number, same) =
     none n (subst (λ (l : List ℕ). IsNumber l n) (append_cancel_right others digits (codes "/dump") (sym same ∙ is)) number)
 no_dump_number rest digits is none (End e) (front, session, same) = dump_or_end rest front digits same is
+no_dump_number rest digits is none (Renew n) (others, number, same) = renew_or_dump rest digits others is same
 no_dump_number rest digits is none Host none_here = none_here
 no_dump_number rest digits is none Metrics none_here = none_here
 no_dump_number rest digits is none Unknown none_here = none_here
@@ -93,11 +106,31 @@ no_dump_number rest digits is none Unknown none_here = none_here
 -- behind the end of a session
 pub no_session : (rest front : List ℕ) → rest ≡ front ++ codes "/end" → ((e : Ended) → NamesSession front e → ⊥) → NamesWithout rest Unknown
 no_session rest front is none = (
-  (λ n number. no_number 47 100 front (101 ∷ 110 ∷ 100 ∷ []) rest n is refl (omega arith) number),
+  (
+    (λ n number. no_number 47 100 front (101 ∷ 110 ∷ 100 ∷ []) rest n is refl (omega arith) number),
+    (λ n stands. renew_or_end rest front stands.0 is stands.2),
+  ),
   (λ e stands. none e (subst (λ (l : List ℕ). NamesSession l e) (append_cancel_right stands.0 front (codes "/end") (sym stands.2 ∙ is)) stands.1)),
 )
 
+-- behind a renewal's end
+pub no_renewal_number : (rest digits : List ℕ) → rest ≡ digits ++ codes "/renew" → ((n : ℕ) → IsNumber digits n → ⊥) → NamesAlone rest Unknown
+no_renewal_number rest digits is none = (
+  (λ n number. no_number 47 119 digits (114 ∷ 101 ∷ 110 ∷ 101 ∷ 119 ∷ []) rest n is refl (omega arith) number),
+  (λ n stands. none n (subst (λ (l : List ℕ). IsNumber l n) (append_cancel_right stands.0 digits (codes "/renew") (sym stands.2 ∙ is)) stands.1)),
+)
+
 -- ---- one part after another
+
+-- no end of a session is named, and so is what else can be
+pub without_alone : (rest : List ℕ) (page : Route) → ((front : List ℕ) → rest ≡ front ++ codes "/end" → ⊥) → NamesAlone rest page → NamesWithout rest page
+without_alone rest Host none alone = alone
+without_alone rest Metrics none alone = alone
+without_alone rest (Tenant n) none alone = alone
+without_alone rest (Dump n) none alone = alone
+without_alone rest (End e) none alone = alone
+without_alone rest (Renew n) none alone = alone
+without_alone rest Unknown none alone = (alone, (λ e stands. none stands.0 stands.2))
 
 -- no script is named, and so is what else can be
 pub behind_without : (rest : List ℕ) (page : Route) → ((digits : List ℕ) → rest ≡ digits ++ codes "/dump" → ⊥) → NamesWithout rest page → NamesBehind rest page
@@ -106,12 +139,14 @@ behind_without rest Metrics none without = without
 behind_without rest (Tenant n) none without = without
 behind_without rest (Dump n) none without = without
 behind_without rest (End e) none without = without
+behind_without rest (Renew n) none without = without
 behind_without rest Unknown none without = no_page
   where
     no_page : (page : Route) → StandsBehind rest page → ⊥
-    no_page (Tenant n) stands = without.0 n stands
+    no_page (Tenant n) stands = without.0.0 n stands
     no_page (Dump n) stands = none stands.0 stands.2
     no_page (End e) stands = without.1 e stands
+    no_page (Renew n) stands = without.0.1 n stands
     no_page Host stands = stands
     no_page Metrics stands = stands
     no_page Unknown stands = stands
@@ -123,6 +158,7 @@ names-by_rest target rest Metrics is behind = absurd behind
 names-by_rest target rest (Tenant n) is behind = (rest, is, behind)
 names-by_rest target rest (Dump n) is behind = (rest, is, behind)
 names-by_rest target rest (End e) is behind = (rest, is, behind)
+names-by_rest target rest (Renew n) is behind = (rest, is, behind)
 names-by_rest target rest Unknown is behind = no_page
   where
     same : (other : List ℕ) → target ≡ codes "/tenants/" ++ other → other ≡ rest
@@ -134,6 +170,7 @@ names-by_rest target rest Unknown is behind = no_page
     no_page (Tenant n) t = behind (Tenant n) (subst (λ (l : List ℕ). StandsBehind l (Tenant n)) (same t.0 t.1) t.2)
     no_page (Dump n) t = behind (Dump n) (subst (λ (l : List ℕ). StandsBehind l (Dump n)) (same t.0 t.1) t.2)
     no_page (End e) t = behind (End e) (subst (λ (l : List ℕ). StandsBehind l (End e)) (same t.0 t.1) t.2)
+    no_page (Renew n) t = behind (Renew n) (subst (λ (l : List ℕ). StandsBehind l (Renew n)) (same t.0 t.1) t.2)
     no_page Unknown t = t.2
 
 -- a target that is none of those is that of no page
@@ -143,4 +180,5 @@ names_none target host metrics tenants Metrics e = metrics e
 names_none target host metrics tenants (Tenant n) t = tenants t.0 t.1
 names_none target host metrics tenants (Dump n) t = tenants t.0 t.1
 names_none target host metrics tenants (End e) t = tenants t.0 t.1
+names_none target host metrics tenants (Renew n) t = tenants t.0 t.1
 names_none target host metrics tenants Unknown t = t.2

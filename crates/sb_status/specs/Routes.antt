@@ -2,7 +2,7 @@
 use Rattle.std.specs.Prelude.{◌≡◌, ◌+◌, ◌<◌, ◌^◌, ℕ, List, [], ◌∷◌, ◌++◌, codes}
 use Rattle.std.specs.Str.Parse.{IsNumeral, digits_value, without_leading_plus}
 use Rattle.sb_status.specs.declared.route.Route.{Route}
-use Rattle.sb_status.specs.declared.route.Route.TheVariants.{Host, Metrics, Tenant, Dump, End, Unknown}
+use Rattle.sb_status.specs.declared.route.Route.TheVariants.{Host, Metrics, Tenant, Dump, End, Renew, Unknown}
 use Rattle.sb_status.specs.declared.route.Ended.{Ended}
 
 -- decimal digits, in front of which a plus may stand
@@ -19,6 +19,7 @@ abbrev pub StandsBehind : List ℕ → Route → Type 0
 StandsBehind rest (Tenant n) = IsNumber rest n
 StandsBehind rest (Dump n) = (digits : List ℕ) × IsNumber digits n × (rest ≡ digits ++ codes "/dump")
 StandsBehind rest (End e) = (front : List ℕ) × NamesSession front e × (rest ≡ front ++ codes "/end")
+StandsBehind rest (Renew n) = (digits : List ℕ) × IsNumber digits n × (rest ≡ digits ++ codes "/renew")
 StandsBehind rest page = ⊥
 
 -- a page's target is its own
@@ -37,7 +38,12 @@ abbrev pub NamesBehind : List ℕ → Route → Type 0
 NamesBehind rest Unknown = (page : Route) → StandsBehind rest page → ⊥
 NamesBehind rest page = StandsBehind rest page
 
+-- and of that where no end of a session can be named, either
+abbrev pub NamesAlone : List ℕ → Route → Type 0
+NamesAlone rest Unknown = ((n : ℕ) → StandsBehind rest (Tenant n) → ⊥) × ((n : ℕ) → StandsBehind rest (Renew n) → ⊥)
+NamesAlone rest page = StandsBehind rest page
+
 -- and of that where no script can be named
 abbrev pub NamesWithout : List ℕ → Route → Type 0
-NamesWithout rest Unknown = ((n : ℕ) → StandsBehind rest (Tenant n) → ⊥) × ((e : Ended) → StandsBehind rest (End e) → ⊥)
+NamesWithout rest Unknown = NamesAlone rest Unknown × ((e : Ended) → StandsBehind rest (End e) → ⊥)
 NamesWithout rest page = StandsBehind rest page

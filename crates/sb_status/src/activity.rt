@@ -19,6 +19,7 @@ pub(crate) fn write_sums(page: &mut Page<'_>, activity: Activity<'_>) -> Result<
         (Markup::FactConsiderations, activity.considerations),
         (Markup::FactRollbacks, rollbacks_of(activity.rollbacks)),
         (Markup::FactRefusals, refusals_of(activity.refusals)),
+        (Markup::FactRenewals, activity.renewals.done),
     ])
 }
 

@@ -26,7 +26,11 @@ pub(crate) fn write_activity(
     page: &mut Page<'_>,
     activity: Activity<'_>,
 ) -> Result<(), AllocError> {
-    page.count(Markup::ConsiderationsSample, activity.considerations)?;
+    page.counts(&[
+        (Markup::ConsiderationsSample, activity.considerations),
+        (Markup::RenewalsSample, activity.renewals.done),
+        (Markup::RenewalsFailedSample, activity.renewals.failed),
+    ])?;
     page.mark(Markup::NewLine)?;
     write_rollbacks(page, activity.rollbacks)?;
     write_refusals(page, activity.refusals)?;

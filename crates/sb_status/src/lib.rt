@@ -48,7 +48,7 @@ pub use tenant_copy::view_at;
 pub use tenant_counts::{Counting, SessionReading};
 pub use text::Escaping;
 pub use view::{
-    Activity, Bucket, ColumnView, Histogram, HostNumbers, HostView, Refused, Rollbacks, RuleView,
-    RulesetView, SessionState, SessionView, SlowView, TableView, TenantNumbers, TenantView,
-    TriggersView, WorkerNumbers,
+    Activity, Bucket, ColumnView, Histogram, HostNumbers, HostView, Refused, RenewalNumbers,
+    Rollbacks, RuleView, RulesetView, SessionState, SessionView, SlowView, TableView,
+    TenantNumbers, TenantView, TriggersView, WorkerNumbers,
 };

@@ -138,6 +138,10 @@ pub(crate) const FACT_ACTIVE: &str = "</dd></div>\n<div><dt>in a transaction</dt
 
 pub(crate) const FACT_CHANGES: &str = "</dd></div>\n<div><dt>changes in the log</dt><dd>";
 
+pub(crate) const FACT_VOLUME: &str = "</dd></div>\n<div><dt>volume</dt><dd>";
+
+pub(crate) const FACT_RENEWED: &str = "</dd></div>\n<div><dt>renewed</dt><dd>";
+
 pub(crate) const TABLES_HEAD: &str = "\
 <h2>Tables</h2>
 <div class=\"wide\"><table>
@@ -301,7 +305,7 @@ filgwesha_considerations_limit ";
 pub(crate) const SAMPLE_END: &str = "\"} ";
 
 pub(crate) const STEPS_FAMILY: &str = "\
-# HELP filgwesha_tenant_steps_total Steps of a tenant.
+# HELP filgwesha_tenant_steps_total Steps that the sessions of a tenant made, in all volumes of its life.
 # TYPE filgwesha_tenant_steps_total counter
 ";
 
@@ -363,6 +367,20 @@ pub(crate) const CHANGES_FAMILY: &str = "\
 
 pub(crate) const CHANGES_SAMPLE: &str = "filgwesha_tenant_log_changes{tenant=\"";
 
+pub(crate) const VOLUME_FAMILY: &str = "\
+# HELP filgwesha_tenant_volume Volumes of its life that ended before its trail.
+# TYPE filgwesha_tenant_volume gauge
+";
+
+pub(crate) const VOLUME_SAMPLE: &str = "filgwesha_tenant_volume{tenant=\"";
+
+pub(crate) const VOLUME_AGE_FAMILY: &str = "\
+# HELP filgwesha_tenant_volume_age_seconds Seconds since a renewal began its trail; there is none before the first.
+# TYPE filgwesha_tenant_volume_age_seconds gauge
+";
+
+pub(crate) const VOLUME_AGE_SAMPLE: &str = "filgwesha_tenant_volume_age_seconds{tenant=\"";
+
 // What a server counts.
 
 pub(crate) const FACT_LINES: &str = "</dd></div>\n<div><dt>lines</dt><dd>";
@@ -372,6 +390,8 @@ pub(crate) const FACT_CONSIDERATIONS: &str = "</dd></div>\n<div><dt>consideratio
 pub(crate) const FACT_ROLLBACKS: &str = "</dd></div>\n<div><dt>rollbacks</dt><dd>";
 
 pub(crate) const FACT_REFUSALS: &str = "</dd></div>\n<div><dt>refusals</dt><dd>";
+
+pub(crate) const FACT_RENEWALS: &str = "</dd></div>\n<div><dt>renewals</dt><dd>";
 
 pub(crate) const OLD_AGE: &str = "</td><td class=\"off\">";
 
@@ -421,6 +441,16 @@ pub(crate) const CONSIDERATIONS_SAMPLE: &str = "\n\
 # HELP filgwesha_considerations_total Rules that were considered.
 # TYPE filgwesha_considerations_total counter
 filgwesha_considerations_total ";
+
+pub(crate) const RENEWALS_SAMPLE: &str = "\n\
+# HELP filgwesha_renewals_total Renewals of tenants, each of which ended a volume of a trail and began the next one.
+# TYPE filgwesha_renewals_total counter
+filgwesha_renewals_total ";
+
+pub(crate) const RENEWALS_FAILED_SAMPLE: &str = "\n\
+# HELP filgwesha_renewals_failed_total Renewals that were tried and could not be made.
+# TYPE filgwesha_renewals_failed_total counter
+filgwesha_renewals_failed_total ";
 
 pub(crate) const ROLLBACKS_FAMILY: &str = "\
 # HELP filgwesha_rollbacks_total Transactions that were rolled back, by what did it.

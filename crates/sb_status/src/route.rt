@@ -1,6 +1,6 @@
 //! What a request asks for.
 ghost use Rattle.std.specs.Prelude.{ℕ, MatchOption};
-ghost use Rattle.sb_status.specs.Routes.{IsNumber, Names, NamesBehind, NamesSession, NamesWithout};
+ghost use Rattle.sb_status.specs.Routes.{IsNumber, Names, NamesAlone, NamesBehind, NamesSession, NamesWithout};
 ghost use Rattle.sb_status.specs.declared.route.Ended.{Ended as ItsEnded};
 
 use std::str;
@@ -12,6 +12,8 @@ const DUMP: &[u8] = b"/dump";
 const SESSIONS: &[u8] = b"/sessions/";
 
 const END: &[u8] = b"/end";
+
+const RENEW: &[u8] = b"/renew";
 
 /// A session that is to end.
 #[derive(Clone, Copy)]
@@ -31,6 +33,8 @@ pub enum Route {
     Dump(u32),
     /// The end of a session.
     End(Ended),
+    /// The renewal of the tenant with this number.
+    Renew(u32),
     Unknown,
 }
 
@@ -63,13 +67,26 @@ fn route_behind(rest: &[u8]) -> Route
     }
 }
 
-/// The page of a tenant, or the end of one of its sessions.
+/// The page of a tenant, its renewal, or the end of one of its sessions.
 fn route_without(rest: &[u8]) -> Route
     ensures { NamesWithout rest.now result }
 {
     match rest.strip_suffix(END) {
+        None => route_alone(rest),
         Some(front) => match session_in(front) {
             Some(ended) => Route::End(ended),
+            None => Route::Unknown,
+        },
+    }
+}
+
+/// The page of a tenant, or its renewal.
+fn route_alone(rest: &[u8]) -> Route
+    ensures { NamesAlone rest.now result }
+{
+    match rest.strip_suffix(RENEW) {
+        Some(digits) => match number(digits) {
+            Some(tenant) => Route::Renew(tenant),
             None => Route::Unknown,
         },
         None => match number(rest) {

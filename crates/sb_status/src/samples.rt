@@ -19,7 +19,7 @@ struct Family {
 }
 
 /// How many numbers each tenant has.
-const FAMILIES: usize = 10;
+const FAMILIES: usize = 11;
 
 /// All of it as samples, in the text format 0.0.4. Error: out of memory.
 pub fn metrics(alloc: Global, view: HostView<'_>) -> Result<Vec<u8>, AllocError>
@@ -31,6 +31,7 @@ pub fn metrics(alloc: Global, view: HostView<'_>) -> Result<Vec<u8>, AllocError>
     for place in 0..FAMILIES {
         write_family(&mut page, place, view.tenants)?;
     }
+    write_volume_ages(&mut page, view.tenants)?;
     page.render(alloc, Escaping::Label)
 }
 
@@ -60,17 +61,42 @@ fn write_family(
         if index == 0 {
             page.mark(family.head)?;
         }
-        page.count(family.sample, tenant.tenant)?;
-        page.count(Markup::SampleEnd, family.number)?;
-        page.mark(Markup::NewLine)?;
+        write_sample(page, family, tenant)?;
     }
     Ok(())
+}
+
+/// Writes how old the volumes are that renewals began, if there are some.
+fn write_volume_ages(page: &mut Page<'_>, tenants: &[TenantNumbers]) -> Result<(), AllocError> {
+    let mut is_first = true;
+    for tenant in tenants {
+        if let Some(seconds) = tenant.volume_age {
+            let family = made(Markup::VolumeAgeFamily, Markup::VolumeAgeSample, seconds);
+            if is_first {
+                page.mark(family.head)?;
+            }
+            is_first = false;
+            write_sample(page, family, tenant)?;
+        }
+    }
+    Ok(())
+}
+
+/// Writes the sample of a tenant.
+fn write_sample(
+    page: &mut Page<'_>,
+    family: Family,
+    tenant: &TenantNumbers,
+) -> Result<(), AllocError> {
+    page.count(family.sample, tenant.tenant)?;
+    page.count(Markup::SampleEnd, family.number)?;
+    page.mark(Markup::NewLine)
 }
 
 /// The number of a tenant at this place.
 fn family_at(place: usize, tenant: &TenantNumbers) -> Family {
     match place {
-        0 => made(Markup::StepsFamily, Markup::StepsSample, tenant.steps),
+        0 => made(Markup::StepsFamily, Markup::StepsSample, tenant.steps_made),
         1 => made(Markup::RoomFamily, Markup::RoomSample, tenant.room),
         2 => made(Markup::BytesFamily, Markup::BytesSample, tenant.bytes),
         3 => made(Markup::TablesFamily, Markup::TablesSample, tenant.tables),
@@ -79,6 +105,7 @@ fn family_at(place: usize, tenant: &TenantNumbers) -> Family {
         6 => made(Markup::OpenFamily, Markup::OpenSample, tenant.open),
         7 => made(Markup::ActiveFamily, Markup::ActiveSample, tenant.active),
         8 => made(Markup::ChangesFamily, Markup::ChangesSample, tenant.changes),
+        9 => made(Markup::VolumeFamily, Markup::VolumeSample, tenant.volume),
         _ => made(
             Markup::OldFamily,
             Markup::OldSample,

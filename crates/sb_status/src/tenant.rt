@@ -1,6 +1,6 @@
 //! The page of a tenant.
 ghost use Rattle.std.specs.Prelude.{◌≡◌, ◌++◌, ◌∷◌, [], IfOk, OnOk};
-ghost use Rattle.sb_status.specs.TenantPages.{IsPageOf, age_pieces, beginning_of, counted, numbered};
+ghost use Rattle.sb_status.specs.TenantPages.{IsPageOf, age_pieces, beginning_of, counted, numbered, renewed_pieces};
 ghost use Rattle.sb_status.specs.declared.fragment.Fragment.TheVariants as piece;
 
 use crate::markup::Markup;
@@ -45,7 +45,7 @@ fn write_age(page: &mut Page<'_>, age: Option<u64>) -> Result<(), AllocError>
 
 fn write_numbers(page: &mut Page<'_>, numbers: TenantNumbers) -> Result<(), AllocError>
     ensures { OnOk result (page.new.pieces.items
-        ≡ page.old.pieces.items ++ (counted (numbered numbers) ++ piece.Markup Markup.FactsEnd ∷ [])) }
+        ≡ page.old.pieces.items ++ (counted (numbered numbers) ++ (renewed_pieces numbers.volume_age ++ piece.Markup Markup.FactsEnd ∷ []))) }
 {
     page.counts(&[
         (Markup::TenantTitle, numbers.tenant),
@@ -56,8 +56,23 @@ fn write_numbers(page: &mut Page<'_>, numbers: TenantNumbers) -> Result<(), Allo
         (Markup::FactOpen, numbers.open),
         (Markup::FactActive, numbers.active),
         (Markup::FactChanges, numbers.changes),
+        (Markup::FactVolume, numbers.volume),
     ])?;
+    write_renewed(page, numbers.volume_age)?;
     page.mark(Markup::FactsEnd)
+}
+
+/// Writes how long ago a renewal began its volume, if one did.
+fn write_renewed(page: &mut Page<'_>, age: Option<u64>) -> Result<(), AllocError>
+    ensures { OnOk result (page.new.pieces.items ≡ page.old.pieces.items ++ renewed_pieces age) }
+{
+    match age {
+        Some(seconds) => {
+            page.count(Markup::FactRenewed, seconds)?;
+            page.mark(Markup::Ago)
+        }
+        None => Ok(()),
+    }
 }
 
 /// Writes what stands behind the numbers.

@@ -1,12 +1,12 @@
 //! The numbers of a tenant, copied within the lock of its cell.
 ghost use Rattle.std.specs.Prelude.{◌≡◌, None, false};
 ghost use Rattle.sb_tenant.specs.Tenant.{state};
-ghost use Rattle.sb_status.specs.TenantCounts.{AreNumbersOf};
+ghost use Rattle.sb_status.specs.TenantCounts.{AreNumbersOf, steps_made};
 
 use crate::view::TenantNumbers;
 use sb_host::Reading;
 use sb_tables::Tables;
-use sb_tenant::{TRAIL_LIMIT, Tenant};
+use sb_tenant::{TRAIL_LIMIT, Tenant, Volume};
 use sb_value::{SESSION_LIMIT, SessionId};
 
 /// Copies the numbers of a tenant of which a session was ever opened.
@@ -82,9 +82,11 @@ pub(crate) fn numbers_of(first_tenant: u32, tenant: &Tenant) -> TenantNumbers
     ensures { AreNumbersOf first_tenant tenant.now result }
 {
     let steps = tenant.trail().len();
+    let volume = tenant.volume();
     TenantNumbers {
         tenant: u64::from(first_tenant) + u64::from(tenant.id().number()),
         steps: steps as u64,
+        steps_made: steps_made(volume, steps as u64),
         room: TRAIL_LIMIT.saturating_sub(steps) as u64,
         bytes: tenant.bytes_taken(),
         tables: tenant.tables().len() as u64,
@@ -93,8 +95,19 @@ pub(crate) fn numbers_of(first_tenant: u32, tenant: &Tenant) -> TenantNumbers
         open: sessions_in(tenant, false),
         active: sessions_in(tenant, true),
         changes: tenant.changes_kept(),
+        volume: volume.number,
+        volume_age: None,
         age: None,
     }
+}
+
+/// How many steps sessions made up to the end of a volume with so many entries.
+fn steps_made(volume: Volume, entries: u64) -> u64
+    ensures { result ≡ steps_made volume entries }
+{
+    volume
+        .before
+        .saturating_add(entries.saturating_sub(volume.opening))
 }
 
 /// How many rows all tables have, with the changes of all sessions.

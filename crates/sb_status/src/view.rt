@@ -21,6 +21,8 @@ pub struct HostNumbers<'a> {
 pub struct TenantNumbers {
     pub tenant: u64,
     pub steps: u64,
+    /// How many steps its sessions made in all volumes of its life.
+    pub steps_made: u64,
     /// How many steps more its trail has room for.
     pub room: u64,
     /// What its trail, its open transactions and the texts of its rules take, as its share of memory is counted.
@@ -34,6 +36,10 @@ pub struct TenantNumbers {
     pub active: u64,
     /// The changes of their transactions.
     pub changes: u64,
+    /// How many volumes of its life ended before its trail.
+    pub volume: u64,
+    /// A renewal began its trail so many seconds ago, if one did since the server began.
+    pub volume_age: Option<u64>,
     /// The numbers are so many seconds old, since the tenant was busy.
     pub age: Option<u64>,
 }
@@ -98,6 +104,13 @@ pub struct SlowView<'a> {
     pub line: &'a [u8],
 }
 
+/// How many tenants were renewed, and how often one couldn't be.
+#[derive(Clone, Copy)]
+pub struct RenewalNumbers {
+    pub done: u64,
+    pub failed: u64,
+}
+
 /// What a server has counted since it began.
 #[derive(Clone, Copy)]
 pub struct Activity<'a> {
@@ -106,6 +119,7 @@ pub struct Activity<'a> {
     pub considerations: u64,
     pub rollbacks: Rollbacks,
     pub refusals: &'a [Refused],
+    pub renewals: RenewalNumbers,
     pub times: Histogram<'a>,
     /// The lines that took longest, the slowest first.
     pub slowest: &'a [SlowView<'a>],
