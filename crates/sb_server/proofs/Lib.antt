@@ -4,5 +4,6 @@ pub mod Failing
 pub mod Gains
 pub mod Noting
 pub mod Placing
+pub mod Renewed
 pub mod Slots
 pub mod Zips

@@ -33,12 +33,16 @@ EndsBy t h is_cut ByOperator = ⊤
 abbrev pub IsUnderWay : History → Type 0
 IsUnderWay h = (h.state ≡ Failed → ⊥) × ((is_open h.state ≡ false) × (h.pending ≡ []) → ⊥)
 
--- So it is told, where it ends one. It waits only where something is to be sent or more may come, and goes on at once only where nothing is
--- to be sent.
-abbrev pub TellsEnd : Traffic → History → Bool → Next → Type 0
-TellsEnd t h is_cut Waits = IsUnderWay h × ((h.pending ≡ [] → ⊥) ⊎ MayReceive h)
-TellsEnd t h is_cut GoesOn = IsUnderWay h × (h.pending ≡ [])
-TellsEnd t h is_cut (Ends ending) = EndsBy t h is_cut ending
+-- it is paused for a renewal, or its session waits for the next volume of its tenant's trail
+abbrev pub AwaitsRenewal : Bool → History → Type 0
+AwaitsRenewal is_paused h = (is_paused ≡ true) ⊎ (h.waits ≡ true)
+
+-- So it is told, where it ends one. It waits only where something is to be sent, more may come or its tenant is to be renewed, and goes on at once
+-- only where nothing is to be sent.
+abbrev pub TellsEnd : Traffic → History → Bool → Bool → Next → Type 0
+TellsEnd t h is_cut is_paused Waits = IsUnderWay h × ((h.pending ≡ [] → ⊥) ⊎ (MayReceive h ⊎ AwaitsRenewal is_paused h))
+TellsEnd t h is_cut is_paused GoesOn = IsUnderWay h × (h.pending ≡ [])
+TellsEnd t h is_cut is_paused (Ends ending) = EndsBy t h is_cut ending
 
 -- there is a limit, and nothing was heard for at least so long
 pub record IsSilentFor (limit : Option Duration) (heard : Option Instant) (now : Instant) : Type 0 where

@@ -6,6 +6,7 @@ pub mod ReplyMetrics
 pub mod Keeping
 pub mod Mailboxes
 pub mod Places
+pub mod Renewals
 pub mod Sessions
 pub mod Sockets
 pub mod ClientConnections

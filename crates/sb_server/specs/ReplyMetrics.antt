@@ -3,7 +3,7 @@ use Rattle.std.specs.Prelude.{◌≡◌, ⊤, ℕ, Bool, true, List, []}
 use Rattle.sb_connection.specs.Conversation.{Hosted}
 use Rattle.sb_connection.specs.Routes.{Routes}
 use Rattle.sb_connection.specs.declared.route.Destination.{Destination}
-use Rattle.sb_connection.specs.declared.route.Destination.TheVariants.{Unknown, To, Away}
+use Rattle.sb_connection.specs.declared.route.Destination.TheVariants.{Unknown}
 use Rattle.sb_server.specs.declared.pending_connection.HandshakeRead.{HandshakeRead}
 use Rattle.sb_server.specs.declared.pending_connection.HandshakeRead.TheVariants as heard
 

@@ -1,5 +1,5 @@
 -- Machine: what goes over a socket, by its logs.
-use Rattle.std.specs.Prelude.{List, map, drop}
+use Rattle.std.specs.Prelude.{map, drop}
 use Rattle.sb_connection.specs.Traffic.{Traffic}
 use Rattle.sb_server.specs.declared.socket.Socket.{Socket}
 

@@ -7,6 +7,7 @@ use crate::commit_hook::CommitHook;
 use crate::door::{Client, Door, not_accepted};
 use crate::mailbox::Handoff;
 use crate::pending_connection::{HandshakeRead, PendingConnection};
+use crate::renewals::Renewals;
 use crate::server::Serving;
 use crate::sweeps::{SWEEP, Sweeps};
 use crate::worker::Worker;
@@ -36,8 +37,8 @@ pub(crate) const FIRST_LINE: u32 = 10;
 
 /// Accepts connections and reads their first lines. A worker of its own closes those that open no session.
 #[derive(Drop)]
-pub(crate) struct AcceptThread<'s, H: Hosting, V, D: Doorkeeper, K: CommitHook, C> {
-    lobby: Worker<'s, H, V, D, K, C>,
+pub(crate) struct AcceptThread<'s, H: Hosting, V, D: Doorkeeper, K: CommitHook, E, C> {
+    lobby: Worker<'s, H, V, D, K, E, C>,
     door: Door<'s>,
     pending_connections: Slab<Box<PendingConnection>>,
     /// When late pending connections were looked for.
@@ -46,18 +47,19 @@ pub(crate) struct AcceptThread<'s, H: Hosting, V, D: Doorkeeper, K: CommitHook, 
     has_told: bool,
 }
 
-impl<'s, H: Hosting, V: Watch, D: Doorkeeper, K: CommitHook, C: Clock> AcceptThread<
+impl<'s, H: Hosting, V: Watch, D: Doorkeeper, K: CommitHook, E: Renewals, C: Clock> AcceptThread<
     's,
     H,
     V,
     D,
     K,
+    E,
     C,
 > {
     pub(crate) fn new(
-        lobby: Worker<'s, H, V, D, K, C>,
+        lobby: Worker<'s, H, V, D, K, E, C>,
         door: Door<'s>,
-    ) -> AcceptThread<'s, H, V, D, K, C>
+    ) -> AcceptThread<'s, H, V, D, K, E, C>
         ensures { result.lobby.stubs.items ≡ lobby.entry.stubs.items }
     {
         let pending_connections = Slab::new(lobby.serving.alloc);

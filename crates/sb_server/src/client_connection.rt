@@ -2,11 +2,12 @@
 ghost use Rattle.std.specs.Prelude.{◌≡◌, ◌<◌, ◌≤◌, ◌⊎◌, ◌↔◌, [], false, true, length, IfNone, IfOk, IfSome, IsSome, IsSomeAnd, IsTrue, MatchResult, None, Ok, Some, is_some};
 ghost use Rattle.sb_connection.specs.Conversation.{hosting_by};
 ghost use Rattle.std.specs.Duration.{as_nanos};
-ghost use Rattle.sb_connection.specs.History.{MayReceive, SameStreams, Transacts, after_sending};
+ghost use Rattle.sb_connection.specs.History.{MayReceive, SameStreams, Transacts, after_resuming, after_sending};
 ghost use Rattle.sb_connection.specs.Traffic.{Traffic, after_read, after_write};
 ghost use Rattle.sb_server.specs.Carried.{Carries};
 ghost use Rattle.sb_server.specs.Closed.{Leaves};
-ghost use Rattle.sb_server.specs.ClientConnections.{EndsBy, EndsSilent, HasSession, IsBlocked, ReadsOnce, SendsSome, TellsEnd, ends};
+ghost use Rattle.sb_server.specs.Renewals.{LeavesVolume};
+ghost use Rattle.sb_server.specs.ClientConnections.{AwaitsRenewal, EndsBy, EndsSilent, HasSession, IsBlocked, ReadsOnce, SendsSome, TellsEnd, ends};
 
 use crate::pending_connection::{HandshakeSettings, PendingConnection};
 use crate::reply_metrics::{MetricsContext, ReplyMetrics};
@@ -44,7 +45,10 @@ pub(crate) struct ClientConnection<H: Hosting, S: Stream + Drop, D: Doorkeeper> 
     pub(crate) is_cut: bool,
     /// An operator has asked to end the session.
     pub(crate) is_ended: bool,
+    /// It isn't read until its tenant is renewed.
+    pub(crate) is_paused: bool,
     ghost carries: { Carries (S.traffic stream) connection is_cut },
+    ghost keyed: { connection.hosted.keyed ≡ D.policy.keyed },
 }
 
 impl<H: Hosting, S: Stream + Drop, D: Doorkeeper> Drop for ClientConnection<H, S, D> {
@@ -61,6 +65,7 @@ impl<H: Hosting, S: Stream + Drop, D: Doorkeeper> Drop for ClientConnection<H, S
             hung_up: _,
             is_cut: _,
             is_ended: _,
+            is_paused: _,
         } = self;
     }
 }
@@ -89,8 +94,8 @@ pub(crate) enum Came {
 const LAST_READS: usize = 4;
 
 impl<H: Hosting, S: Stream + Drop, D: Doorkeeper> ClientConnection<H, S, D> {
-    /// The first part of a turn: reads and answers what has come, and sends nothing. Returns the fault, if there is
-    /// one.
+    /// The first part of a turn: reads and answers what has come, unless it is paused, and sends nothing. Returns the
+    /// fault, if there is one.
     pub(crate) fn take_in<T: Wait, V: Watch, C: Clock>(
         &mut self,
         rt: &T,
@@ -101,9 +106,14 @@ impl<H: Hosting, S: Stream + Drop, D: Doorkeeper> ClientConnection<H, S, D> {
         ensures fault { IfSome result (EndsBy (S.traffic self.new.stream) self.new.connection self.new.is_cut) }
         ensures stays { self.old.connection.attached ≡ true → self.new.connection.attached ≡ true }
         ensures unsent { self.new.connection.handed ≡ self.old.connection.handed }
+        ensures paused { self.old.is_paused ≡ true → self.new.connection ≡ self.old.connection }
         ensures others { (self.new.tenant ≡ self.old.tenant) × (self.new.is_ended ≡ self.old.is_ended) }
     {
         self.is_active = false;
+        if self.is_paused {
+            self.came = Came::Unread;
+            return None;
+        }
         if self.is_ended {
             return None;
         }
@@ -121,7 +131,7 @@ impl<H: Hosting, S: Stream + Drop, D: Doorkeeper> ClientConnection<H, S, D> {
 
     /// The second part of a turn: sends the replies. Returns what the connection does next.
     pub(crate) fn give_out(&mut self) -> Next
-        ensures tells { TellsEnd (S.traffic self.new.stream) self.new.connection self.new.is_cut result }
+        ensures tells { TellsEnd (S.traffic self.new.stream) self.new.connection self.new.is_cut self.new.is_paused result }
         ensures ended { self.old.is_ended ≡ true → ends result ≡ true }
         ensures stays { self.new.connection.attached ≡ self.old.connection.attached }
         ensures others { self.new.tenant ≡ self.old.tenant }
@@ -172,7 +182,7 @@ impl<H: Hosting, S: Stream + Drop, D: Doorkeeper> ClientConnection<H, S, D> {
 
     /// What the connection does after its turn.
     fn next(&self) -> Next
-        ensures tells { TellsEnd (S.traffic self.now.stream) self.now.connection self.now.is_cut result }
+        ensures tells { TellsEnd (S.traffic self.now.stream) self.now.connection self.now.is_cut self.now.is_paused result }
         ensures ended { self.now.is_ended ≡ true → ends result ≡ true }
     {
         if self.connection.has_failed() {
@@ -185,6 +195,9 @@ impl<H: Hosting, S: Stream + Drop, D: Doorkeeper> ClientConnection<H, S, D> {
             return Next::Ends(ConnectionEnd::ByOperator);
         }
         if self.connection.wants_write() {
+            return Next::Waits;
+        }
+        if self.awaits_renewal() {
             return Next::Waits;
         }
         match self.came {
@@ -282,9 +295,13 @@ impl<H: Hosting, S: Stream + Drop, D: Doorkeeper> ClientConnection<H, S, D> {
         ensures ending { IfSome result (EndsSilent limits.now self.now.heard now) }
         ensures transaction { result ≡ Some ConnectionEnd.IdleTransaction → Transacts self.now.connection true }
         ensures due { self.now.is_due ≡ true → result ≡ None }
+        ensures renewal { AwaitsRenewal self.now.is_paused self.now.connection → result ≡ None }
         ensures limits { limits.now.idle ≡ None → limits.now.idle_transaction ≡ None → result ≡ None }
     {
         if self.is_due {
+            return None;
+        }
+        if self.awaits_renewal() {
             return None;
         }
         let silent = now.duration_since(self.heard?);
@@ -295,6 +312,52 @@ impl<H: Hosting, S: Stream + Drop, D: Doorkeeper> ClientConnection<H, S, D> {
             return Some(ConnectionEnd::Idle);
         }
         None
+    }
+
+    /// True if the first line names this tenant.
+    pub(crate) fn is_of(&self, tenant: u32) -> bool
+        ensures { IsTrue result ↔ (self.now.tenant ≡ Some tenant) }
+    {
+        match self.tenant {
+            Some(own) => own == tenant,
+            None => false,
+        }
+    }
+
+    /// True if its tenant is to be renewed before it goes on.
+    pub(crate) fn awaits_renewal(&self) -> bool
+        ensures { IsTrue result ↔ AwaitsRenewal self.now.is_paused self.now.connection }
+    {
+        self.is_paused || self.connection.waits()
+    }
+
+    /// True if this tenant is to be renewed before it goes on.
+    pub(crate) fn awaits_renewal_of(&self, tenant: u32) -> bool
+        ensures { IsTrue result → (self.now.tenant ≡ Some tenant) × AwaitsRenewal self.now.is_paused self.now.connection }
+    {
+        self.is_of(tenant) && self.awaits_renewal()
+    }
+
+    /// The session leaves the volume of its tenant's trail, if it has no transaction. Its receipts are left, and it waits
+    /// for the next volume.
+    pub(crate) fn suspend<T: Wait>(&mut self, rt: &T) -> Option<Stub>
+        ensures left { IfSome result (LeavesVolume D.policy) }
+        ensures detached { IsSome result → (self.old.connection.attached ≡ true) × (self.new.connection.attached ≡ false) }
+        ensures none { IfNone result (self.new.connection ≡ self.old.connection) }
+        ensures why { IfNone result (self.old.connection.attached ≡ true → Transacts self.old.connection true) }
+        ensures others { (self.new.tenant ≡ self.old.tenant) × (self.new.is_ended ≡ self.old.is_ended) }
+    {
+        self.connection.suspend(rt)
+    }
+
+    /// Goes on behind a renewal. A session that waits is opened in the new volume; where it can't be, it waits on.
+    pub(crate) fn resume<T: Wait>(&mut self, rt: &T)
+        ensures resumed { (self.new.connection ≡ self.old.connection) ⊎ (self.new.connection ≡ after_resuming self.old.connection) }
+        ensures stays { self.old.connection.attached ≡ true → self.new.connection.attached ≡ true }
+        ensures others { (self.new.tenant ≡ self.old.tenant) × (self.new.is_ended ≡ self.old.is_ended) × (self.new.is_paused ≡ false) }
+    {
+        self.is_paused = false;
+        let _waits_on = self.connection.resume(rt);
     }
 
     /// True if it has this session.
@@ -337,6 +400,7 @@ impl<H: Hosting, S: Stream + Drop, D: Doorkeeper> ClientConnection<H, S, D> {
             hung_up: _,
             is_cut: _,
             is_ended: _,
+            is_paused: _,
         } = self;
         connection.close(rt, &Told { watch, port }, ending)
     }
@@ -373,6 +437,7 @@ impl<H: Hosting, D: Doorkeeper> ClientConnection<H, Socket, D> {
             hung_up: false,
             is_cut: is_cut || is_lost,
             is_ended: false,
+            is_paused: false,
         }
     }
 
@@ -424,6 +489,7 @@ fn take_bytes<H: Hosting, D: Doorkeeper>(
         (λ _. Carries (after_read t buffer.now (Ok count)) connection.new true) }
     ensures stays { connection.new.attached ≡ connection.old.attached }
     ensures unsent { connection.new.handed ≡ connection.old.handed }
+    ensures hosted { connection.new.hosted ≡ connection.old.hosted }
 {
     if count > 0 {
         let bytes = &buffer[..count];

@@ -14,6 +14,8 @@ mod last_lines;
 mod mailbox;
 mod pending_connection;
 mod poller;
+mod renewals;
+mod renewing;
 mod reply_metrics;
 mod server;
 mod server_metrics;
@@ -28,6 +30,7 @@ mod worker;
 pub use background_task::{BackgroundTask, NoBackgroundTask, ShutdownSignal};
 pub use commit_hook::{CommitHook, CommitStatus, NoJournal};
 pub use counts::{Cause, Count, LIMITS};
+pub use renewals::{NoRenewals, Renewals};
 pub use sb_connection::{
     Admission, Answered, ConnectionEvent, Open, SessionCaller, SessionName, Slow, Watch,
 };

@@ -1,12 +1,12 @@
 //! All connections of a listener, served by workers.
 ghost use Rattle.std.specs.Prelude.{◌≡◌, ◌<◌, ◌≤◌, ◌++◌, [], ℕ, List, IfOk, IsTrue, Ok, OnOk, Vec, vec_len};
 ghost use Rattle.std.specs.Global.{Global as ItsGlobal};
-ghost use Rattle.std.specs.List.{All, flat_map};
+ghost use Rattle.std.specs.List.{flat_map};
 ghost use Rattle.sb_desk.specs.declared.stub.Stub.{Stub as ItsStub};
 ghost use Rattle.sb_connection.specs.Policies.{policy};
-ghost use Rattle.sb_server.specs.Closed.{LeaveClosed, LeavesClosed};
 ghost use Rattle.sb_server.specs.Mailboxes.{ArePlaced};
 ghost use Rattle.sb_server.specs.Places.{place_of};
+ghost use Rattle.sb_server.specs.Renewals.{AreLeft};
 
 use crate::accept_thread::{AcceptThread, FIRST_LINE};
 use crate::background_task::{BackgroundTask, ShutdownSignal, run_beside};
@@ -17,6 +17,7 @@ use crate::guard::{Guard, PolicyName};
 use crate::mailbox::{Handoff, Mailbox};
 use crate::pending_connection::HandshakeSettings;
 use crate::poller::Poller;
+use crate::renewals::Renewals;
 use crate::server_metrics::ServerMetrics;
 use crate::worker::Worker;
 use mio::{Events, Waker};
@@ -51,14 +52,15 @@ pub struct Terms {
     pub slow: Option<Duration>,
 }
 
-/// Where connections are taken, who is told of them, whom they admit, what is kept and counted, and by which terms they
-/// are served.
+/// Where connections are taken, who is told of them, whom they admit, what is kept and counted, which tenants are
+/// renewed, and by which terms they are served.
 #[derive(Drop)]
-pub struct ServerConfig<'s, V, A, K> {
+pub struct ServerConfig<'s, V, A, K, E> {
     pub listener: &'s TcpListener,
     pub watch: &'s V,
     pub admission: &'s A,
     pub commit_hook: &'s K,
+    pub renewals: &'s E,
     /// Where its workers count, and are told whose sessions end.
     pub server_metrics: &'s ServerMetrics,
     pub terms: Terms,
@@ -86,12 +88,13 @@ impl From<AllocError> for ServeError {
 
 /// What all threads of a server share.
 #[derive(Drop)]
-pub(crate) struct Serving<'s, H: Hosting, V, D, K, C> {
+pub(crate) struct Serving<'s, H: Hosting, V, D, K, E, C> {
     pub(crate) alloc: Global,
     pub(crate) host: H,
     pub(crate) watch: &'s V,
     pub(crate) doorkeeper: &'s D,
     pub(crate) commit_hook: &'s K,
+    pub(crate) renewals: &'s E,
     pub(crate) server_metrics: &'s ServerMetrics,
     pub(crate) clock: &'s C,
     pub(crate) first_tenant: u32,
@@ -112,7 +115,7 @@ pub(crate) struct Serving<'s, H: Hosting, V, D, K, C> {
     ghost placed: { ArePlaced mailboxes.items },
 }
 
-impl<'s, H: Hosting, V, D, K, C> Serving<'s, H, V, D, K, C> {
+impl<'s, H: Hosting, V, D, K, E, C> Serving<'s, H, V, D, K, E, C> {
     /// The place of the worker that has a tenant's cell.
     pub(crate) fn place_of(&self, tenant: u32) -> usize
         ensures { result ≡ place_of H.cells (vec_len self.now.mailboxes) tenant }
@@ -241,11 +244,13 @@ pub(crate) struct WorkerSetup {
     events: Events,
 }
 
-impl<'s, H: Hosting, V: Watch, D: Doorkeeper, K: CommitHook, C: Clock> Work<WorkerSetup, Vec<Stub>>
-    for Serving<'s, H, V, D, K, C> {
-    ghost use Rattle.sb_server.specs.Closed.{LeaveClosed};
+impl<'s, H: Hosting, V: Watch, D: Doorkeeper, K: CommitHook, E: Renewals, C: Clock> Work<
+    WorkerSetup,
+    Vec<Stub>,
+> for Serving<'s, H, V, D, K, E, C> {
+    ghost use Rattle.sb_server.specs.Renewals.{AreLeft};
 
-    ghost does = { λ _ stubs. LeaveClosed D.policy stubs };
+    ghost does = { λ _ stubs. AreLeft D.policy E.may_renew stubs };
 
     fn work<R: Wait>(&self, rt: &R, setup: WorkerSetup) -> Vec<Stub> {
         let WorkerSetup {
@@ -260,7 +265,15 @@ impl<'s, H: Hosting, V: Watch, D: Doorkeeper, K: CommitHook, C: Clock> Work<Work
     }
 }
 
-impl<'s, H: Hosting, V: Watch, D: Doorkeeper, K: CommitHook, C: Clock> Serving<'s, H, V, D, K, C> {
+impl<'s, H: Hosting, V: Watch, D: Doorkeeper, K: CommitHook, E: Renewals, C: Clock> Serving<
+    's,
+    H,
+    V,
+    D,
+    K,
+    E,
+    C,
+> {
     /// The settings by which first lines are read.
     pub(crate) fn handshake(&self) -> HandshakeSettings
         ensures tenants { (result.first ≡ self.now.first_tenant) × (result.tenants ≡ H.tenants self.now.host) }
@@ -305,7 +318,7 @@ impl<'s, H: Hosting, V: Watch, D: Doorkeeper, K: CommitHook, C: Clock> Serving<'
 
     /// Accepts connections, and closes those that open no session.
     fn run_accept_thread<R: Wait>(&self, rt: &R, seat: Poller, events: &mut Events) -> Vec<Stub>
-        ensures { LeaveClosed D.policy result }
+        ensures { AreLeft D.policy E.may_renew result }
     {
         let place = self.mailboxes.len();
         let lobby = Worker::new(self, place, self.lobby_limits(), seat);
@@ -323,7 +336,7 @@ impl<'s, H: Hosting, V: Watch, D: Doorkeeper, K: CommitHook, C: Clock> Serving<'
         seat: Poller,
         events: &mut Events,
     ) -> Vec<Stub>
-        ensures { LeaveClosed D.policy result }
+        ensures { AreLeft D.policy E.may_renew result }
     {
         let mut worker = Worker::new(self, place, self.limits(), seat);
         worker.run(rt, events);
@@ -350,11 +363,11 @@ impl<'s, H: Hosting, V: Watch, D: Doorkeeper, K: CommitHook, C: Clock> Serving<'
 }
 
 /// Serves all connections: each worker and the accept thread run in threads of their own, the background task in this
-/// one. Leaves the receipts of all sessions. Error: why it ended before it was to (ServeError).
-pub fn serve_all<H, V, A, K, G, R>(
+/// one. Leaves the receipts of all sessions that no renewal took. Error: why it ended before it was to (ServeError).
+pub fn serve_all<H, V, A, K, E, G, R>(
     rt: &R,
     alloc: Global,
-    config: &ServerConfig<'_, V, A, K>,
+    config: &ServerConfig<'_, V, A, K, E>,
     host: H,
     background_task: &G,
 ) -> Result<Vec<Stub>, ServeError>
@@ -363,21 +376,21 @@ where
     V: Watch + Sync,
     A: Admission + Sync,
     K: CommitHook + Sync,
+    E: Renewals + Sync,
     G: BackgroundTask,
     R: Threads + Wait + Net + Clock + Sync,
     H::Session: Send,
     requires workers { (0 < config.now.terms.workers) × (config.now.terms.workers ≤ 16) }
-    ensures { IfOk result (λ stubs. All
-        (LeavesClosed (policy (A.wants config.now.admission.now) (A.admits config.now.admission.now))) stubs.items) }
+    ensures { IfOk result (AreLeft (policy (A.wants config.now.admission.now) (A.admits config.now.admission.now)) E.may_renew) }
 {
-    serve_as::<Brand, H, V, A, K, G, R>(rt, alloc, config, host, background_task)
+    serve_as::<Brand, H, V, A, K, E, G, R>(rt, alloc, config, host, background_task)
 }
 
 /// Serves all connections under a name of the policy.
-fn serve_as<N, H, V, A, K, G, R>(
+fn serve_as<N, H, V, A, K, E, G, R>(
     rt: &R,
     alloc: Global,
-    config: &ServerConfig<'_, V, A, K>,
+    config: &ServerConfig<'_, V, A, K, E>,
     host: H,
     background_task: &G,
 ) -> Result<Vec<Stub>, ServeError>
@@ -387,13 +400,14 @@ where
     V: Watch + Sync,
     A: Admission + Sync,
     K: CommitHook + Sync,
+    E: Renewals + Sync,
     G: BackgroundTask,
     R: Threads + Wait + Net + Clock + Sync,
     H::Session: Send,
     requires workers { (0 < config.now.terms.workers) × (config.now.terms.workers ≤ 16) }
     requires wants { A.wants config.now.admission.now ≡ N.policy.keyed }
     requires admits { (tenant : ℕ) (key : List ℕ) → A.admits config.now.admission.now tenant key → N.policy.admits tenant key }
-    ensures { IfOk result (λ stubs. All (LeavesClosed N.policy) stubs.items) }
+    ensures { IfOk result (AreLeft N.policy E.may_renew) }
 {
     let guard = Guard::<A, N>::new(config.admission);
     let terms = config.terms;
@@ -414,6 +428,7 @@ where
         watch: config.watch,
         doorkeeper: &guard,
         commit_hook: config.commit_hook,
+        renewals: config.renewals,
         server_metrics: config.server_metrics,
         clock: rt,
         first_tenant: terms.first_tenant,

@@ -1,5 +1,5 @@
 //! What is known of a server while it serves: counts of its workers, the slowest lines, and when each session was answered.
-//! And what it is told: whose sessions are to end.
+//! And what it is told: whose sessions are to end, and which tenants are to be renewed.
 ghost use Rattle.std.specs.Prelude.{◌≡◌, ◌+◌, ◌<◌, ◌≤◌, ◌↔◌, IfOk, IfSome, IsFalse, IsTrue};
 ghost use Rattle.sb_server.specs.ServerMetrics.{AreSlowestFirst, IsSessionFrom, desk_count, place_count};
 
@@ -18,7 +18,7 @@ use std::{io, mem};
 /// How many of the slowest lines are kept.
 const MOST_LINES: usize = 10;
 
-/// The most requests to end a session that wait for one worker.
+/// The most requests of a kind that wait for one worker.
 const MOST_ORDERS: usize = 64;
 
 /// Requests to a worker.
@@ -28,6 +28,8 @@ struct Orders {
     waker: Option<Waker>,
     /// Sessions to end.
     ends: Vec<SessionName>,
+    /// Tenants to renew.
+    renewals: Vec<u32>,
 }
 
 /// Counters and slow lines of a server, and requests to its workers. Each worker has a place; the accept thread has the
@@ -86,6 +88,7 @@ impl ServerMetrics {
             desks.push(Mutex::new(Orders {
                 waker: None,
                 ends: Vec::new(alloc),
+                renewals: Vec::new(alloc),
             }))?;
         }
         tallies.push(WorkerCounters::new(alloc)?)?;
@@ -200,6 +203,26 @@ impl ServerMetrics {
         waker.wake().is_ok()
     }
 
+    /// Asks the worker of `cell` to renew a tenant. False if the worker does not run, 64 requests wait already, or
+    /// memory is short.
+    pub fn renew_tenant<T: Wait>(&self, rt: &T, cell: usize, tenant: u32) -> bool
+        ensures { desk_count self.now ≡ 0 → IsFalse result }
+    {
+        let workers = self.desks.len();
+        if workers == 0 {
+            return false;
+        }
+        let mut desk = self.desks[cell % workers].lock(rt);
+        let desk = &mut *desk;
+        let Some(waker) = &desk.waker else {
+            return false;
+        };
+        if desk.renewals.len() >= MOST_ORDERS || desk.renewals.push(tenant).is_err() {
+            return false;
+        }
+        waker.wake().is_ok()
+    }
+
     /// Sets the waker of the worker at this place.
     pub(crate) fn hang_bell<T: Wait>(&self, rt: &T, place: usize, poll: &Poll) -> io::Result<()> {
         if let Some(desk) = self.desks.get(place) {
@@ -218,6 +241,14 @@ impl ServerMetrics {
     ) -> Vec<SessionName> {
         match self.desks.get(place) {
             Some(desk) => mem::replace(&mut desk.lock(rt).ends, Vec::new(alloc)),
+            None => Vec::new(alloc),
+        }
+    }
+
+    /// Removes and returns the tenants that the worker at this place has to renew.
+    pub(crate) fn take_renewals<T: Wait>(&self, rt: &T, alloc: Global, place: usize) -> Vec<u32> {
+        match self.desks.get(place) {
+            Some(desk) => mem::replace(&mut desk.lock(rt).renewals, Vec::new(alloc)),
             None => Vec::new(alloc),
         }
     }

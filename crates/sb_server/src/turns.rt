@@ -7,6 +7,7 @@ ghost use Rattle.sb_server.specs.Sessions.{KeepsSessions};
 
 use crate::client_connection::{ClientConnection, Next};
 use crate::commit_hook::CommitHook;
+use crate::renewals::Renewals;
 use crate::reply_metrics::MetricsContext;
 use crate::socket::Socket;
 use crate::worker::Worker;
@@ -17,7 +18,15 @@ use std::rt::Clock;
 use std::sync::Wait;
 use std::time::Instant;
 
-impl<'s, H: Hosting, V: Watch, D: Doorkeeper, K: CommitHook, C: Clock> Worker<'s, H, V, D, K, C> {
+impl<'s, H: Hosting, V: Watch, D: Doorkeeper, K: CommitHook, E: Renewals, C: Clock> Worker<
+    's,
+    H,
+    V,
+    D,
+    K,
+    E,
+    C,
+> {
     /// Gives the queued connections their turns, as far as the time of a round goes. With a commit hook a round has three
     /// parts: all lines are answered, all answers are committed at once, and then the replies are sent.
     pub(crate) fn serve_due<T: Wait>(&mut self, rt: &T)
@@ -170,7 +179,7 @@ impl<'s, H: Hosting, V: Watch, D: Doorkeeper, K: CommitHook, C: Clock> Worker<'s
         }
     }
 
-    /// Reads and answers what a connection has received.
+    /// Reads and answers what a connection has received. If its tenant is to be renewed, it is paused behind that.
     #[tactic(auto, using(crate::proofs::Counting::keeps_bit))]
     fn take_in<T: Wait>(&mut self, rt: &T, key: usize)
         ensures noted { IfSome (get self.new.client_connections key) (λ v. (get self.old.client_connections key ≡ Some v)
@@ -193,6 +202,8 @@ impl<'s, H: Hosting, V: Watch, D: Doorkeeper, K: CommitHook, C: Clock> Worker<'s
             Some(fault) => self.settle(rt, Box::into_inner(client_connection), fault),
             None => {
                 let answered = client_connection.answered();
+                let is_paused = self.pauses(&client_connection);
+                client_connection.is_paused = is_paused;
                 self.put_back(client_connection);
                 self.note_answered(answered);
             }

@@ -1,9 +1,10 @@
 //! One worker: it waits for events of its connections, and serves those that have some.
-ghost use Rattle.std.specs.Prelude.{◌≡◌, ◌⊎◌, ◌+◌, ◌≤◌, ◌++◌, ◌==◌, [], ℕ, false, true, cond, length, IfOk, IfSome, None, OnOk, OnSome, Some, Option, option_to_list, vec_len, vec_capacity};
+ghost use Rattle.std.specs.Prelude.{◌≡◌, ◌≢◌, ◌⊎◌, ◌+◌, ◌≤◌, ◌++◌, ◌==◌, [], ℕ, false, true, cond, is_some, length, IfOk, IfSome, None, OnOk, OnSome, Some, Option, option_to_list, vec_len, vec_capacity};
 ghost use Rattle.sb_desk.specs.declared.stub.Stub.{Stub as ItsStub};
 ghost use Rattle.slab.specs.Slab.{Updates, get, slab_len};
 ghost use Rattle.sb_server.specs.Closed.{GainsClosed, Leaves};
 ghost use Rattle.sb_server.specs.Places.{place_of};
+ghost use Rattle.sb_server.specs.Renewals.{KeepsOrRenews};
 ghost use Rattle.sb_server.specs.Sessions.{KeepsSessions, has_one, session_count};
 ghost use Rattle.sb_server.specs.Sockets.{traffic};
 ghost use Rattle.sb_server.specs.ClientConnections.{HasSession};
@@ -16,6 +17,7 @@ use crate::input::{has_ended, watch_input};
 use crate::mailbox::Handoff;
 use crate::pending_connection::{HandshakeRead, PendingConnection};
 use crate::poller::{Poller, WAKER};
+use crate::renewals::Renewals;
 use crate::server::Serving;
 use crate::socket::Socket;
 use crate::sweeps::{SWEEP, Sweeps};
@@ -41,8 +43,8 @@ const PAUSE: u64 = 100;
 
 /// A worker with its connections, by their tokens.
 #[derive(Drop)]
-pub(crate) struct Worker<'s, H: Hosting, V, D: Doorkeeper, K: CommitHook, C> {
-    pub(crate) serving: &'s Serving<'s, H, V, D, K, C>,
+pub(crate) struct Worker<'s, H: Hosting, V, D: Doorkeeper, K: CommitHook, E, C> {
+    pub(crate) serving: &'s Serving<'s, H, V, D, K, E, C>,
     /// The place of its counters.
     pub(crate) place: usize,
     limits: Limits,
@@ -59,23 +61,35 @@ pub(crate) struct Worker<'s, H: Hosting, V, D: Doorkeeper, K: CommitHook, C> {
     pub(crate) is_behind: bool,
     /// The tenants with answers that are not committed yet. Their connections are not read meanwhile.
     pub(crate) answered: Vec<u32>,
-    stubs: Vec<Stub>,
+    pub(crate) stubs: Vec<Stub>,
     /// The waker was used.
     is_called: bool,
     /// When events came, if lines are timed.
     pub(crate) woke: Option<Instant>,
     /// When silent connections were looked for.
     sweeps: Sweeps,
+    /// The tenants that are renewed next, if they can be.
+    pub(crate) renewing: Vec<u32>,
+    /// Connections may await a renewal. They are looked at in sweeps.
+    pub(crate) has_paused: bool,
     /// Each connection has a place for its receipts.
     ghost room: { vec_len stubs + slab_len client_connections ≤ vec_capacity stubs },
     /// Without a commit hook nothing waits for a commit.
     ghost unkept: { K.is_set serving.now.commit_hook.now ≡ false → answered.items ≡ [] },
 }
 
-impl<'s, H: Hosting, V: Watch, D: Doorkeeper, K: CommitHook, C: Clock> Worker<'s, H, V, D, K, C> {
+impl<'s, H: Hosting, V: Watch, D: Doorkeeper, K: CommitHook, E: Renewals, C: Clock> Worker<
+    's,
+    H,
+    V,
+    D,
+    K,
+    E,
+    C,
+> {
     /// A worker without connections.
     pub(crate) fn new(
-        serving: &'s Serving<'s, H, V, D, K, C>,
+        serving: &'s Serving<'s, H, V, D, K, E, C>,
         place: usize,
         limits: Limits,
         seat: Poller,
@@ -99,6 +113,8 @@ impl<'s, H: Hosting, V: Watch, D: Doorkeeper, K: CommitHook, C: Clock> Worker<'s
             is_called: true,
             woke: None,
             sweeps: Sweeps::none_yet(),
+            renewing: Vec::new(serving.alloc),
+            has_paused: false,
         }
     }
 
@@ -130,8 +146,7 @@ impl<'s, H: Hosting, V: Watch, D: Doorkeeper, K: CommitHook, C: Clock> Worker<'s
 
     /// Waits until all threads run, serves the connections of its cells, and closes the ones that are left at the end.
     pub(crate) fn run<T: Wait>(&mut self, rt: &T, events: &mut Events)
-        ensures gains { GainsClosed D.policy self.old.stubs.items self.new.stubs.items }
-        ensures sessions { KeepsSessions self.old.client_connections self.new.client_connections (λ v. v.value.connection.attached) self.old.stubs.items self.new.stubs.items }
+        ensures { KeepsOrRenews D.policy E.may_renew E.takes self.old.client_connections self.new.client_connections (λ v. v.value.connection.attached) self.old.stubs.items self.new.stubs.items }
     {
         if !self.meet(events) {
             return;
@@ -142,8 +157,7 @@ impl<'s, H: Hosting, V: Watch, D: Doorkeeper, K: CommitHook, C: Clock> Worker<'s
 
     /// Serves the connections of its cells until none is left and none comes, or the server stops.
     fn serve<T: Wait>(&mut self, rt: &T, events: &mut Events)
-        ensures gains { GainsClosed D.policy self.old.stubs.items self.new.stubs.items }
-        ensures sessions { KeepsSessions self.old.client_connections self.new.client_connections (λ v. v.value.connection.attached) self.old.stubs.items self.new.stubs.items }
+        ensures { KeepsOrRenews D.policy E.may_renew E.takes self.old.client_connections self.new.client_connections (λ v. v.value.connection.attached) self.old.stubs.items self.new.stubs.items }
     {
         for _turn in 0..u64::MAX {
             // what was handed over before the door closed is there, told or not
@@ -161,6 +175,7 @@ impl<'s, H: Hosting, V: Watch, D: Doorkeeper, K: CommitHook, C: Clock> Worker<'s
             }
             self.serve_due(rt);
             self.sweep(rt);
+            self.renew_noted(rt);
         }
     }
 
@@ -242,15 +257,23 @@ impl<'s, H: Hosting, V: Watch, D: Doorkeeper, K: CommitHook, C: Clock> Worker<'s
         if self.all_due || !self.due.is_empty() {
             return Some(Duration::ZERO);
         }
-        if self.limits.are_set() && !self.client_connections.is_empty() {
+        if !self.renewing.is_empty() {
+            return Some(Duration::ZERO);
+        }
+        if self.is_swept() && !self.client_connections.is_empty() {
             return Some(Duration::from_millis(SWEEP));
         }
         None
     }
 
-    /// The time, if idle connections are closed.
+    /// True if connections are looked at once a second.
+    fn is_swept(&self) -> bool {
+        self.limits.are_set() || self.has_paused
+    }
+
+    /// The time, if connections are looked at once a second.
     pub(crate) fn now(&self) -> Option<Instant> {
-        if !self.limits.are_set() {
+        if !self.is_swept() {
             return None;
         }
         Instant::now(self.serving.clock).ok()
@@ -319,6 +342,9 @@ impl<'s, H: Hosting, V: Watch, D: Doorkeeper, K: CommitHook, C: Clock> Worker<'s
         ensures sessions { session_count self.new.client_connections (λ v. v.value.connection.attached) ≡ session_count self.old.client_connections (λ v. v.value.connection.attached) + cond client_connection.value.connection.attached 1 0 }
         ensures client_connection { IfSome (get self.new.client_connections self.old.client_connections.vacant_key) (λ v.
             (v.value.connection ≡ client_connection.value.connection) × (v.value.is_ended ≡ client_connection.value.is_ended)) }
+        ensures there { is_some (get self.new.client_connections self.old.client_connections.vacant_key) ≡ true }
+        ensures elsewhere { (key : ℕ) → key ≢ self.old.client_connections.vacant_key
+            → get self.new.client_connections key ≡ get self.old.client_connections key }
         ensures others { (self.new.stubs ≡ self.old.stubs) × (self.new.answered ≡ self.old.answered) }
     {
         let was_due = client_connection.is_due;
@@ -346,6 +372,21 @@ impl<'s, H: Hosting, V: Watch, D: Doorkeeper, K: CommitHook, C: Clock> Worker<'s
             }
         }
         self.obey(rt);
+        self.note_wanted(rt);
+    }
+
+    /// Notes the tenants that operators have asked to renew.
+    fn note_wanted<T: Wait>(&mut self, rt: &T)
+        ensures { (self.new.stubs ≡ self.old.stubs) × (self.new.client_connections ≡ self.old.client_connections) }
+    {
+        for tenant in self
+            .serving
+            .server_metrics
+            .take_renewals(rt, self.serving.alloc, self.place)
+        {
+            self.serving.renewals.ask(tenant);
+            let _or_at_the_next_turn = self.note_renewal(tenant);
+        }
     }
 
     /// Ends the sessions that operators have asked to end.
@@ -488,7 +529,7 @@ impl<'s, H: Hosting, V: Watch, D: Doorkeeper, K: CommitHook, C: Clock> Worker<'s
         }
     }
 
-    /// Closes the connections that have been silent for too long.
+    /// Closes the connections that have been silent for too long, and notes the tenants whose connections await a renewal.
     pub(crate) fn sweep<T: Wait>(&mut self, rt: &T)
         ensures gains { GainsClosed D.policy self.old.stubs.items self.new.stubs.items }
         ensures sessions { KeepsSessions self.old.client_connections self.new.client_connections (λ v. v.value.connection.attached) self.old.stubs.items self.new.stubs.items }
@@ -497,8 +538,10 @@ impl<'s, H: Hosting, V: Watch, D: Doorkeeper, K: CommitHook, C: Clock> Worker<'s
         let Some(now) = self.sweeps.next(now) else {
             return;
         };
+        self.has_paused = false;
         for key in 0..self.client_connections.capacity() {
             self.judge(rt, key, now);
+            self.note_awaiting(key);
         }
     }
 

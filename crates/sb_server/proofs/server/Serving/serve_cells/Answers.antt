@@ -1,12 +1,14 @@
-use Rattle.std.proofs.Common.{◌∙◌, subst, sym, List, ap, ◌++◌}
+use Rattle.std.proofs.Common.{subst, sym, List}
 use Rattle.std.specs.List.{All}
 use Rattle.sb_desk.specs.declared.stub.Stub.{Stub}
-use Rattle.sb_server.specs.Closed.{LeavesClosed}
+use Rattle.sb_server.specs.Renewals.{IsLeft}
+use Rattle.sb_server.proofs.Renewed.{all_are_left}
 use Rattle.sb_server.proofs.server.Serving.serve_cells.Goals as goal
 
--- it begins with none, and gains those of its connections
+-- it begins with none, and has what its connections left
 pub returns : goal.returns
 returns g c =
-    let gained = c.run.ensures.gains in
-    let is = c.into_stubs.ensures ∙ gained.1 ∙ ap (λ (l : List Stub). l ++ gained.0) c.new-worker.ensures in
-    subst (λ (l : List Stub). All (LeavesClosed g.D.Doorkeeper.policy) l) (sym is) gained.2
+    let begun = c.new-worker.result in
+    let ended = c.run.new.self in
+    subst (λ (l : List Stub). All (IsLeft g.D.Doorkeeper.policy g.E.Renewals.may_renew) l) (sym c.into_stubs.ensures)
+    (all_are_left g.D.Doorkeeper.policy g.E.Renewals.may_renew g.E.Renewals.takes (λ v. v.value.connection.attached) begun.client_connections ended.client_connections begun.stubs.items ended.stubs.items c.new-worker.ensures c.run.ensures)

@@ -1,5 +1,4 @@
 use Rattle.std.proofs.Common.{ap}
-use Rattle.slab.specs.Slab.{Slab}
 use Rattle.sb_server.proofs.Counting.{sessions_kept}
 use Rattle.sb_server.proofs.worker.Worker.make_place.Goals as goal
 
