@@ -1,5 +1,6 @@
 pub mod Replaying
 pub mod Parts
+mod Lives
 pub mod Steps
 pub mod Crashes
 pub mod Records

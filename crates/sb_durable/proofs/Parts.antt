@@ -1,8 +1,8 @@
 -- Parts that are recorded one after the other.
-use Rattle.std.proofs.Common.{◌≡◌, ◌⊎◌, ℕ, ◌+◌, ◌≤◌, ◌<◌, Bool, true, List, [], ◌∷◌, ◌++◌, length, map, take, drop, slice_set, slice_index, cond, codes, None, Some, Option, unwrap_or, refl, sym, ap, ◌∙◌, subst, inl, inr, arith, append_assoc, length-drop, length-take-le, IsTrue, IsFalse, OnErr, IfOk, is_ok, Result, Ok, Err, false}
+use Rattle.std.proofs.Common.{◌≡◌, ◌⊎◌, ℕ, ◌+◌, ◌≤◌, ◌<◌, Bool, true, List, [], ◌∷◌, ◌++◌, length, map, take, drop, slice_set, slice_index, cond, codes, None, Some, slice_get, refl, sym, ap, ◌∙◌, subst, inl, inr, arith, append_assoc, length-drop, length-take-le, IsTrue, IsFalse, OnErr, IfOk, is_ok, Result, Ok, Err, false}
 use Rattle.std.specs.Prelude.{Contains}
 use Rattle.std.proofs.lemmas.List.{append-nil, get_or_default, length-map, take-map, take-take}
-use Rattle.std.proofs.lemmas.Bool.{cases_lt}
+use Rattle.std.proofs.lemmas.Bool.{cases_lt, true≢false}
 use Rattle.sqlite_disk.specs.declared.Disk.{Ghosts}
 use Rattle.sb_host.specs.Lending.{Lends}
 use Rattle.sb_durable.specs.Log.{IsSpent}
@@ -17,20 +17,26 @@ use Rattle.sb_durable.specs.declared.error.JournalError.{JournalError}
 use Rattle.sb_durable.specs.declared.entry_reader.PendingEntry.{PendingEntry}
 use Rattle.sb_durable.specs.declared.entry_reader.EntryReader.{EntryReader}
 use Rattle.sb_durable.specs.declared.entry_reader.ReadReach.{ReadReach}
+use Rattle.sb_durable.specs.declared.recorded_reach.RecordedReach.{RecordedReach}
+use Rattle.sb_durable.specs.declared.recorded_reach.RecordingStart.{RecordingStart}
 use Rattle.sb_durable.specs.declared.entry_reader.ReadReach.TheVariants.{Nowhere, Part as OfPart, End, NoMemory}
-use Rattle.sb_durable.specs.EntryReaders.{note_of, record_of_note, IsFront, IsStaged, NotesBehind, Reads}
-use Rattle.sb_durable.specs.Recording.{Part, entries_of, record_of, records_of, AreAmong, AreOf, Counts, Reaches}
-use Rattle.sb_durable.specs.RecordedTrails.{HasFront, KeepsFront, Stages, StagesBy, StagesFront, StagesNoted, Takes}
+use Rattle.sb_durable.specs.EntryReaders.{note_of, record_of_note, IsFront, IsPlaceIn, IsStaged, NotesBehind, Reads}
+use Rattle.sb_durable.specs.Recording.{Part, entries_of, reach_of, record_of, records_of, renewals_of, AreAmong, AreOf, Counts, GoesOn, Reaches}
+use Rattle.sb_durable.specs.RecordedTrails.{HasFront, KeepsFront, Stages, StagesBy, StagesFront, StagesNothing, StagesNoted, StagesSome, Takes}
 
 -- ---- lists of parts
 
-counts-append : (counts mid new : List ℕ) (ps qs : List Part) → Counts counts ps mid → Counts mid qs new → Counts counts (ps ++ qs) new
-counts-append counts mid new [] qs first then = subst (λ (c : List ℕ). Counts c qs new) first then
-counts-append counts mid new (p ∷ ps) qs first then = (first.0, counts-append (slice_set counts p.tenant (p.from + p.count)) mid new ps qs first.1 then)
+counts-append : (reaches mid new : List RecordedReach) (ps qs : List Part) → Counts reaches ps mid → Counts mid qs new → Counts reaches (ps ++ qs) new
+counts-append reaches mid new [] qs first then = subst (λ (l : List RecordedReach). Counts l qs new) first then
+counts-append reaches mid new (p ∷ ps) qs first then = (first.0, counts-append (slice_set reaches p.tenant (reach_of p (p.from + p.count))) mid new ps qs first.1 then)
+
+-- what a part is recorded as
+abbrev part_records : Part → List Record
+part_records p = renewals_of p.tenant p.is_renewed ++ map (record_of p.tenant) (entries_of p)
 
 records-append : (ps qs : List Part) → records_of (ps ++ qs) ≡ records_of ps ++ records_of qs
 records-append [] qs = refl
-records-append (p ∷ ps) qs = ap (λ (rs : List Record). map (record_of p.tenant) (entries_of p) ++ rs) (records-append ps qs) ∙ sym (append_assoc (map (record_of p.tenant) (entries_of p)) (records_of ps) (records_of qs))
+records-append (p ∷ ps) qs = ap (λ (rs : List Record). part_records p ++ rs) (records-append ps qs) ∙ sym (append_assoc (part_records p) (records_of ps) (records_of qs))
 
 pub reaches_first : (ps qs : List Part) (t : ℕ) → Reaches ps t → Reaches (ps ++ qs) t
 reaches_first [] qs t reach = absurd reach
@@ -159,19 +165,22 @@ module _ {D : Type 0} {g : Ghosts D} (seen : D → List ℕ) (may_leave : D → 
       subst (λ (l : List Part). Takes seen may_leave G old new head records waiting l) (append-nil ps) (takes_more G old mid new head records waiting ps [] first has then)
 
   -- a part of a trail is staged
-  pub takes_part : (G : Type 0) (old new : JournalWriter D g) (head : Head) (records waiting : List Record) (t n from : ℕ) (own : Tenant) (notes : List PendingEntry)
-      → t < length old.recorded.items → own.id ≡ t → from ≡ slice_index old.recorded.items t → IsLegal own → from + n ≤ length own.trail
-      → IsFront (drop from own.trail) notes → n ≤ length notes → length (take n notes) ≡ n → Stages seen may_leave old new t (take n notes)
+  pub takes_part : (G : Type 0) (old new : JournalWriter D g) (head : Head) (records waiting : List Record) (t n : ℕ) (reach : RecordedReach) (start : RecordingStart) (own : Tenant) (notes : List PendingEntry)
+      → slice_get old.recorded.items t ≡ Some reach → own.id ≡ t → GoesOn reach start.reach start.is_renewed → start.reach.volume ≡ own.volume → IsLegal own → start.reach.entries + n ≤ length own.trail
+      → IsFront (drop start.reach.entries own.trail) notes → n ≤ length notes → length (take n notes) ≡ n → Stages seen may_leave old new t start (take n notes)
       → Has seen may_leave old.journal head records waiting → ((head : Head) (records waiting : List Record) → Has seen may_leave new.journal head records waiting → (file : List ℕ) → may_leave (disk_of new.journal) file → Keeps head records file)
-      → Takes seen may_leave G old new head records waiting (record { tenant = t; own = own; from = from; count = n } ∷ [])
-  takes_part G old new head records waiting t n from own notes there lent start legal within front few long stages has kept =
-      let part : Part = record { tenant = t; own = own; from = from; count = n } in
-      let all : waiting ++ map (record_of_note t) (take n notes) ≡ waiting ++ records_of (part ∷ []) =
-      ap (λ (l : List Record). waiting ++ l) (front_is t n (drop from own.trail) notes front few ∙ sym (append-nil (map (record_of t) (entries_of part)))) in
+      → Takes seen may_leave G old new head records waiting (record { tenant = t; own = own; is_renewed = start.is_renewed; from = start.reach.entries; count = n } ∷ [])
+  takes_part G old new head records waiting t n reach start own notes there lent goes volume legal within front few long stages has kept =
+      let from : ℕ = start.reach.entries in
+      let renewals : List Record = renewals_of t start.is_renewed in
+      let part : Part = record { tenant = t; own = own; is_renewed = start.is_renewed; from = from; count = n } in
+      let all : waiting ++ (renewals ++ map (record_of_note t) (take n notes)) ≡ waiting ++ records_of (part ∷ []) =
+      ap (λ (l : List Record). waiting ++ l) (ap (λ (l : List Record). renewals ++ l) (front_is t n (drop from own.trail) notes front few) ∙ sym (append-nil (part_records part))) in
       let now = subst (λ (w : List Record). Has seen may_leave new.journal head records w) all (stages.has head records waiting has) in
-      let counts : new.recorded.items ≡ slice_set old.recorded.items t (from + n) = stages.counts ∙ (λ i. slice_set old.recorded.items t (sym start i + long i)) in
+      let counts : new.recorded.items ≡ slice_set old.recorded.items t (reach_of part (from + n)) = stages.counts ∙ (λ i. slice_set old.recorded.items t (record { volume = volume i; entries = from + long i })) in
+      let goes_on : GoesOn reach (reach_of part from) start.is_renewed = subst (λ (at : RecordedReach). GoesOn reach at start.is_renewed) (λ i. record { volume = volume i; entries = from }) goes in
       record {
-        counts = ((there, lent, start, within, legal), counts);
+        counts = ((reach, there, (lent, goes_on, within, legal)), counts);
         has = inr (record { front = []; back = waiting ++ records_of (part ∷ []); all = refl; has = subst (λ (r : List Record). Has seen may_leave new.journal head r (waiting ++ records_of (part ∷ []))) (sym (append-nil records)) now });
         crash = λ file left. record { front = []; back = waiting ++ records_of (part ∷ []); all = refl; keeps = subst (λ (r : List Record). Keeps head r file) (sym (append-nil records)) (kept head records (waiting ++ records_of (part ∷ [])) now file left) };
       }
@@ -201,56 +210,86 @@ module _ {D : Type 0} {g : Ghosts D} (seen : D → List ℕ) (may_leave : D → 
   abbrev pub Kept : JournalWriter D g → Type 0
   Kept new = (head : Head) (records waiting : List Record) → Has seen may_leave new.journal head records waiting → (file : List ℕ) → may_leave (disk_of new.journal) file → Keeps head records file
 
+  -- a loop over notes has come so far
+  pub staged_front : (old new : JournalWriter D g) (t : ℕ) (start : RecordingStart) (notes : List PendingEntry) (i : ℕ) (all : Bool) (reach : RecordedReach) → i ≤ length notes → (IsTrue all → i ≡ length notes)
+      → reach ≡ record { volume = start.reach.volume; entries = start.reach.entries + i } → new.recorded.items ≡ slice_set old.recorded.items t reach
+      → ((head : Head) (records waiting : List Record) → Has seen may_leave old.journal head records waiting → Has seen may_leave new.journal head records (waiting ++ (renewals_of t start.is_renewed ++ map (record_of_note t) (take i notes))))
+      → StagesSome seen may_leave old new t start notes all
+  staged_front old new t start notes i all reach few whole is counts has =
+      inr (record {
+        count = i;
+        few = few;
+        whole = whole;
+        stages = record {
+          counts = counts ∙ ap (slice_set old.recorded.items t) is ∙ (λ j. slice_set old.recorded.items t (record { volume = start.reach.volume; entries = start.reach.entries + sym (length-take-le i notes few) j }));
+          has = has;
+        };
+      })
+
   abbrev Taken : Type 0 → JournalWriter D g → JournalWriter D g → ℕ → Type 0 → Type 0
   Taken G old new t whole =
       (head : Head) (records waiting : List Record) → Has seen may_leave old.journal head records waiting → (parts : List Part) × Takes seen may_leave G old new head records waiting parts × AreOf t parts × (whole → Reaches parts t)
 
-  taken_front : (G : Type 0) (old new : JournalWriter D g) (t from : ℕ) (own : Tenant) (notes : List PendingEntry) (all : Bool) (whole : Type 0) → t < length old.recorded.items → own.id ≡ t → from ≡ slice_index old.recorded.items t → IsLegal own
-      → from ≤ length own.trail → IsFront (drop from own.trail) notes → (whole → (length notes ≡ length (drop from own.trail)) × IsTrue all) → StagesFront seen may_leave old new t notes all → Kept new → Taken G old new t whole
-  taken_front G old new t from own notes all whole there lent start legal within front to_end staged kept head records waiting has =
-      let part : Part = record { tenant = t; own = own; from = from; count = staged.count } in (
+  taken_front : (G : Type 0) (old new : JournalWriter D g) (t : ℕ) (reach : RecordedReach) (start : RecordingStart) (own : Tenant) (notes : List PendingEntry) (all : Bool) (whole : Type 0) → slice_get old.recorded.items t ≡ Some reach → own.id ≡ t → GoesOn reach start.reach start.is_renewed → IsLegal own
+      → IsPlaceIn own start.reach → IsFront (drop start.reach.entries own.trail) notes → (whole → (length notes ≡ length (drop start.reach.entries own.trail)) × IsTrue all) → StagesFront seen may_leave old new t start notes all → Kept new → Taken G old new t whole
+  taken_front G old new t reach start own notes all whole there lent goes legal place front to_end staged kept head records waiting has =
+      let from : ℕ = start.reach.entries in
+      let part : Part = record { tenant = t; own = own; is_renewed = start.is_renewed; from = from; count = staged.count } in (
         part ∷ [],
-        takes_part G old new head records waiting t staged.count from own notes there lent start legal (omega (arith, within, front.0, staged.few, length-drop from own.trail)) front staged.few (length-take-le staged.count notes staged.few) staged.stages has kept,
+        takes_part G old new head records waiting t staged.count reach start own notes there lent goes place.0 legal (omega (arith, place.1, front.0, staged.few, length-drop from own.trail)) front staged.few (length-take-le staged.count notes staged.few) staged.stages has kept,
         (refl, tt),
-        λ w. inl (refl, omega (arith, within, (to_end w).0, staged.whole (to_end w).1, length-drop from own.trail)),
+        λ w. inl (refl, omega (arith, place.1, (to_end w).0, staged.whole (to_end w).1, length-drop from own.trail)),
       )
 
+  taken_nothing : (G : Type 0) (old new : JournalWriter D g) (t : ℕ) (whole : Type 0) → StagesNothing seen may_leave old new → (whole → ⊥) → Kept new → Taken G old new t whole
+  taken_nothing G old new t whole nothing none kept head records waiting has =
+      let now = nothing.has head records waiting has in
+      ([], takes_none G old new head records waiting nothing.counts now (kept head records waiting now), tt, λ w. absurd (none w))
+
   taken_none : (G : Type 0) (old new : JournalWriter D g) (t : ℕ) (whole : Type 0) → new ≡ old → (whole → ⊥) → Kept new → Taken G old new t whole
-  taken_none G old new t whole same none kept head records waiting has =
-      let now = subst (λ (b : JournalWriter D g). Has seen may_leave b.journal head records waiting) (sym same) has in
-      ([], takes_none G old new head records waiting (ap (λ (b : JournalWriter D g). b.recorded.items) same) now (kept head records waiting now), tt, λ w. absurd (none w))
+  taken_none G old new t whole same none kept =
+      taken_nothing G old new t whole
+      (record {
+        counts = ap (λ (b : JournalWriter D g). b.recorded.items) same;
+        has = λ head records waiting has. subst (λ (b : JournalWriter D g). Has seen may_leave b.journal head records waiting) (sym same) has;
+      }) none kept
+
+  taken_some : (G : Type 0) (old new : JournalWriter D g) (t : ℕ) (reach : RecordedReach) (start : RecordingStart) (own : Tenant) (notes : List PendingEntry) (all : Bool) (whole : Type 0) → slice_get old.recorded.items t ≡ Some reach → own.id ≡ t → GoesOn reach start.reach start.is_renewed → IsLegal own
+      → IsPlaceIn own start.reach → IsFront (drop start.reach.entries own.trail) notes → (whole → (length notes ≡ length (drop start.reach.entries own.trail)) × IsTrue all) → StagesSome seen may_leave old new t start notes all → Kept new → Taken G old new t whole
+  taken_some G old new t reach start own notes all whole there lent goes legal place front to_end (inl nothing) kept = taken_nothing G old new t whole nothing.0 (λ w. true≢false (sym (to_end w).1 ∙ nothing.1)) kept
+  taken_some G old new t reach start own notes all whole there lent goes legal place front to_end (inr staged) kept = taken_front G old new t reach start own notes all whole there lent goes legal place front to_end staged kept
 
   -- by how far the notes go, and whether all of them were taken
-  pub taken : (G : Type 0) (old new : JournalWriter D g) (t from : ℕ) (own : Tenant) (notes : List PendingEntry) (reach : ReadReach) (all : Bool) (whole : Type 0) → t < length old.recorded.items → own.id ≡ t → from ≡ slice_index old.recorded.items t → IsLegal own
-      → NotesBehind from own.trail notes reach → (whole → (reach ≡ End) × IsTrue all) → StagesBy seen may_leave old new t notes all reach → Kept new → Taken G old new t whole
-  taken G old new t from own notes Nowhere all whole there lent start legal behind to_end staged kept = taken_none G old new t whole staged (λ w. absurd (cc ((to_end w).0))) kept
-  taken G old new t from own notes NoMemory all whole there lent start legal behind to_end staged kept = taken_none G old new t whole staged (λ w. absurd (cc ((to_end w).0))) kept
-  taken G old new t from own notes OfPart all whole there lent start legal behind to_end staged kept =
-      taken_front G old new t from own notes all whole there lent start legal behind.0 behind.1 (λ w. absurd (cc ((to_end w).0))) staged kept
-  taken G old new t from own notes End all whole there lent start legal behind to_end staged kept =
-      taken_front G old new t from own notes all whole there lent start legal behind.0 behind.1 (λ w. (behind.2, (to_end w).1)) staged kept
+  pub taken : (G : Type 0) (old new : JournalWriter D g) (t : ℕ) (reach : RecordedReach) (start : RecordingStart) (own : Tenant) (notes : List PendingEntry) (read : ReadReach) (all : Bool) (whole : Type 0) → slice_get old.recorded.items t ≡ Some reach → own.id ≡ t → GoesOn reach start.reach start.is_renewed → IsLegal own
+      → NotesBehind start.reach own notes read → (whole → (read ≡ End) × IsTrue all) → StagesBy seen may_leave old new t start notes all read → Kept new → Taken G old new t whole
+  taken G old new t reach start own notes Nowhere all whole there lent goes legal behind to_end staged kept = taken_none G old new t whole staged (λ w. absurd (cc ((to_end w).0))) kept
+  taken G old new t reach start own notes NoMemory all whole there lent goes legal behind to_end staged kept = taken_none G old new t whole staged (λ w. absurd (cc ((to_end w).0))) kept
+  taken G old new t reach start own notes OfPart all whole there lent goes legal behind to_end staged kept =
+      taken_some G old new t reach start own notes all whole there lent goes legal behind.0 behind.1 (λ w. absurd (cc ((to_end w).0))) staged kept
+  taken G old new t reach start own notes End all whole there lent goes legal behind to_end staged kept =
+      taken_some G old new t reach start own notes all whole there lent goes legal behind.0 behind.1 (λ w. (behind.2, (to_end w).1)) staged kept
 
   -- a reading, and what was staged of it
-  pub taken_ok : (old new : JournalWriter D g) (t : ℕ) (blank notes : EntryReader) (there : Bool) (r : Result Bool JournalError) → t < length old.recorded.items → blank.from ≡ slice_index old.recorded.items t → blank.reach ≡ Nowhere
+  pub taken_ok : (old new : JournalWriter D g) (t : ℕ) (blank notes : EntryReader) (there : Bool) (r : Result Bool JournalError) → slice_get old.recorded.items t ≡ Some blank.start.reach → blank.reach ≡ Nowhere
       → (IsTrue there → Lends (Reads blank) t notes) → (IsFalse there → notes ≡ blank) → IfOk r (λ w. IsStaged notes.reach w) → StagesNoted seen may_leave old new t notes (is_ok r) → Kept new
       → IfOk r (λ w. Taken ⊥ old new t (IsTrue w))
-  taken_ok old new t blank notes there (Err e) has start nowhere read none whole staged kept = tt
-  taken_ok old new t blank notes true (Ok w) has start nowhere read none whole staged kept =
+  taken_ok old new t blank notes there (Err e) has nowhere read none whole staged kept = tt
+  taken_ok old new t blank notes true (Ok w) has nowhere read none whole staged kept =
       let own = read refl in
-      taken ⊥ old new t blank.from own.0 notes.list.items notes.reach true (IsTrue w) has own.1 start own.2.0 own.2.1 (λ is. (whole_reach notes.reach w whole is, refl)) staged kept
-  taken_ok old new t blank notes false (Ok w) has start nowhere read none whole staged kept =
+      taken ⊥ old new t blank.start.reach notes.start own.0 notes.list.items notes.reach true (IsTrue w) has own.1 own.2.1 own.2.0 own.2.2 (λ is. (whole_reach notes.reach w whole is, refl)) staged kept
+  taken_ok old new t blank notes false (Ok w) has nowhere read none whole staged kept =
       let is : notes.reach ≡ Nowhere = ap (λ (n : EntryReader). n.reach) (none refl) ∙ nowhere in
-      taken_none ⊥ old new t (IsTrue w) (subst (λ (r : ReadReach). StagesBy seen may_leave old new t notes.list.items true r) is staged) (λ _. subst (λ (r : ReadReach). IsStaged r w) is whole) kept
+      taken_none ⊥ old new t (IsTrue w) (subst (λ (r : ReadReach). StagesBy seen may_leave old new t notes.start notes.list.items true r) is staged) (λ _. subst (λ (r : ReadReach). IsStaged r w) is whole) kept
 
-  pub taken_err : (G : Type 0) (old new : JournalWriter D g) (t : ℕ) (blank notes : EntryReader) (there : Bool) (r : Result Bool JournalError) → t < length old.recorded.items → blank.from ≡ slice_index old.recorded.items t → blank.reach ≡ Nowhere
+  pub taken_err : (G : Type 0) (old new : JournalWriter D g) (t : ℕ) (blank notes : EntryReader) (there : Bool) (r : Result Bool JournalError) → slice_get old.recorded.items t ≡ Some blank.start.reach → blank.reach ≡ Nowhere
       → (IsTrue there → Lends (Reads blank) t notes) → (IsFalse there → notes ≡ blank) → StagesNoted seen may_leave old new t notes (is_ok r) → Kept new → OnErr r (Taken G old new t ⊥)
-  taken_err G old new t blank notes there (Ok w) has start nowhere read none staged kept = tt
-  taken_err G old new t blank notes true (Err e) has start nowhere read none staged kept =
+  taken_err G old new t blank notes there (Ok w) has nowhere read none staged kept = tt
+  taken_err G old new t blank notes true (Err e) has nowhere read none staged kept =
       let own = read refl in
-      taken G old new t blank.from own.0 notes.list.items notes.reach false ⊥ has own.1 start own.2.0 own.2.1 (λ is. absurd is) staged kept
-  taken_err G old new t blank notes false (Err e) has start nowhere read none staged kept =
+      taken G old new t blank.start.reach notes.start own.0 notes.list.items notes.reach false ⊥ has own.1 own.2.1 own.2.0 own.2.2 (λ is. absurd is) staged kept
+  taken_err G old new t blank notes false (Err e) has nowhere read none staged kept =
       let is : notes.reach ≡ Nowhere = ap (λ (n : EntryReader). n.reach) (none refl) ∙ nowhere in
-      taken_none G old new t ⊥ (subst (λ (r : ReadReach). StagesBy seen may_leave old new t notes.list.items false r) is staged) (λ is. is) kept
+      taken_none G old new t ⊥ (subst (λ (r : ReadReach). StagesBy seen may_leave old new t notes.start notes.list.items false r) is staged) (λ is. is) kept
 
   -- one step after the other, from whatever the journal has
   abbrev pub TakesWith : Type 0 → (List Part → Type 0) → JournalWriter D g → JournalWriter D g → Type 0

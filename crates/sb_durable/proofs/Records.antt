@@ -1,24 +1,22 @@
 -- Records that are played to a cell, and sessions that are ended behind them.
-use Rattle.std.proofs.Common.{◌≡◌, ◌⊎◌, ℕ, ◌≢◌, ◌<◌, ◌≤◌, ◌+◌, Bool, true, false, cond, ◌==◌, List, [], ◌∷◌, ◌++◌, length, map, filter, take, codes, refl, Option, Some, None, sym, ap, ◌∙◌, subst, inl, inr, arith, append_assoc, append-nil, IsTrue, IsFalse, nat_lt, ltb-true}
+use Rattle.std.proofs.Common.{◌≡◌, ℕ, ◌≢◌, ◌<◌, ◌≤◌, ◌+◌, Bool, true, false, cond, ◌==◌, List, [], ◌∷◌, ◌++◌, length, map, filter, take, codes, refl, Option, Some, sym, ap, ◌∙◌, subst, inl, inr, arith, append_assoc, append-nil, IsTrue, IsFalse, nat_lt, ltb-true}
 use Rattle.std.proofs.lemmas.Bool.{eqb-true, eq-eqb, false_from_ne_true, true≢false}
 use Rattle.std.proofs.lemmas.List.{map-append, take_more}
 use Rattle.std.proofs.lemmas.List.Elements.{filter-append}
 use Rattle.std.proofs.lemmas.List.FromFn.{get_or-range_with_len}
-use Rattle.sqlite_disk.specs.declared.Disk.{Ghosts}
 use Rattle.sb_durable.specs.Journal.{Gives}
 use Rattle.sb_durable.specs.Records.{Entry as Record, IsEntry, Takes, bytes_of, entry_bytes, entry_of}
 use Rattle.sb_durable.specs.declared.record.Record.{Record as TheRecord}
 use Rattle.std.specs.Borrow.{Bor}
-use Rattle.sb_durable.specs.declared.journal_header.Head.{Head}
-use Rattle.sb_tenant.specs.State.{State}
+use Rattle.sb_tenant.specs.Limits.{is_session}
 use Rattle.sb_tenant.specs.Trail.{state_after, state_of}
 use Rattle.sb_cell.specs.Tenants.{Cell, IsSame, hosts, states, trails}
 use Rattle.sb_value.specs.Locks.{sessions}
-use Rattle.sb_durable.specs.ReplayedRecords.{EndsSessions, KeepsUp, PlaysRecord}
+use Rattle.sb_durable.specs.ReplayedRecords.{EndsSessions, PlaysRecord, PlaysStep}
+use Rattle.sb_durable.specs.Recording.{renewal_of}
 use Rattle.sb_durable.specs.Replays.{PlaysAll}
 use Rattle.sb_durable.specs.Restart.{AreRecords, IsRestarted, Remembers, ended, made_of, own_records, restarted}
-use Rattle.sb_durable.specs.declared.run.Recording.{Recording}
-use Rattle.sb_durable.proofs.Steps.{after-append, hosts_same, leads, remembers_more, same_then}
+use Rattle.sb_durable.proofs.Steps.{after-append, hosts_same, is_of_session, leads, made-append, remembers_more, same_then}
 
 module _ {S : Type 0} (plays : S → Record → S → Type 0) where
   pub plays-append : (a b c : S) (xs ys : List Record) → PlaysAll plays a xs b → PlaysAll plays b ys c → PlaysAll plays a (xs ++ ys) c
@@ -63,18 +61,39 @@ none_left (b ∷ bs) is = absurd (omega (arith, ap length is))
 pub remembers_new : (cell : Cell) → ((t : ℕ) → trails cell t ≡ []) → Remembers cell []
 remembers_new cell new t hosted = ap (state_of t cell.bound) (sym (new t))
 
-pub remembers_played : (old new : Cell) (r : Record) (done : List Record) → PlaysRecord old r new → Remembers old done → Remembers new (done ++ r ∷ [])
-remembers_played old new r done (same, given, answers, is) remembers =
+remembers_step : (old new : Cell) (r : Record) (done : List Record) → PlaysStep old r new → Remembers old done → Remembers new (done ++ r ∷ [])
+remembers_step old new r done (same, given, answers, is) remembers =
     subst (λ (rs : List Record). Remembers new (done ++ rs)) is (remembers_more old new _ given done remembers same answers)
+
+-- a renewal is no line of any tenant
+no_line : (u t : ℕ) → own_records u (renewal_of t ∷ []) ≡ []
+no_line u t = by (u == t) refl
+  where
+    by : (b : Bool) → (u == t) ≡ b → own_records u (renewal_of t ∷ []) ≡ []
+    by true is = rw is refl
+    by false is = rw is refl
+
+remembers_renewal : (cell : Cell) (t : ℕ) (done : List Record) → Remembers cell done → Remembers cell (done ++ renewal_of t ∷ [])
+remembers_renewal cell t done remembers u hosted =
+    made-append cell.bound u done (renewal_of t ∷ []) ∙ ap (state_after u cell.bound (made_of cell.bound u done)) (no_line u t) ∙ remembers u hosted
+
+pub remembers_played : (old new : Cell) (r : Record) (done : List Record) → PlaysRecord old r new → Remembers old done → Remembers new (done ++ r ∷ [])
+remembers_played old new r done (inl one) remembers = remembers_step old new r done one remembers
+remembers_played old new r done (inr (is, same)) remembers =
+    subst (λ (c : Cell). Remembers c (done ++ r ∷ [])) (sym same) (subst (λ (x : Record). Remembers old (done ++ x ∷ [])) (sym is) (remembers_renewal old r.tenant done remembers))
 
 pub remembers_all : (old new : Cell) (records done : List Record) → PlaysAll PlaysRecord old records new → Remembers old done → Remembers new (done ++ records)
 remembers_all old new [] done same remembers = subst (λ (c : Cell). Remembers c (done ++ [])) (sym same) (subst (Remembers old) (sym (append-nil done)) remembers)
 remembers_all old new (r ∷ records) done (mid, one, rest) remembers =
     subst (Remembers new) (append_assoc done (r ∷ []) records) (remembers_all mid new records (done ++ r ∷ []) rest (remembers_played old mid r done one remembers))
 
+same_played : (old new : Cell) (r : Record) → PlaysRecord old r new → IsSame old new
+same_played old new r (inl one) = one.0
+same_played old new r (inr (is, same)) = subst (λ (c : Cell). IsSame old c) (sym same) (refl, refl, refl, refl)
+
 pub same_all : (old new : Cell) (records : List Record) → PlaysAll PlaysRecord old records new → IsSame old new
 same_all old new [] same = subst (λ (c : Cell). IsSame old c) (sym same) (refl, refl, refl, refl)
-same_all old new (r ∷ records) (mid, one, rest) = same_then old mid new one.0 (same_all mid new records rest)
+same_all old new (r ∷ records) (mid, one, rest) = same_then old mid new (same_played old mid r one) (same_all mid new records rest)
 
 -- ---- sessions that end
 
@@ -90,20 +109,20 @@ pub ends_none : (t : ℕ) (cell : Cell) → EndsThese t cell [] cell
 ends_none t cell = ((refl, refl, refl, refl), refl, λ u other. refl)
 
 -- where a record leads
-played : (old new : Cell) (r : Record) → PlaysRecord old r new → (u : ℕ) → states new u ≡ state_after u old.bound (states old u) (own_records u (r ∷ []))
+played : (old new : Cell) (r : Record) → PlaysStep old r new → (u : ℕ) → states new u ≡ state_after u old.bound (states old u) (own_records u (r ∷ []))
 played old new r (same, given, answers, is) u =
     ap (λ bound. state_of u bound (trails new u)) same.2
     ∙ sym (ap (λ (rs : List Record). state_after u old.bound (states old u) (own_records u rs)) (sym is) ∙ leads old new _ given answers u)
 
 -- one more
-pub ends_more : (t : ℕ) (old mid new : Cell) (all : List ℕ) (s : ℕ) → EndsThese t old all mid → PlaysRecord mid (end_of t s) new → EndsThese t old (all ++ s ∷ []) new
+pub ends_more : (t : ℕ) (old mid new : Cell) (all : List ℕ) (s : ℕ) → EndsThese t old all mid → PlaysStep mid (end_of t s) new → EndsThese t old (all ++ s ∷ []) new
 ends_more t old mid new all s (same, first, others) one = (same_then old mid new same one.0, own, λ u other. apart u other ∙ others u other)
   where
     own_end : own_records t (end_of t s ∷ []) ≡ (s, codes "end") ∷ []
-    own_end = by (eq-eqb t t refl)
+    own_end = by (eq-eqb t t refl) (is_of_session mid new _ one.1 (end_of t s) one.3 one.2)
       where
-        by : (t == t) ≡ true → own_records t (end_of t s ∷ []) ≡ (s, codes "end") ∷ []
-        by is = rw is refl
+        by : (t == t) ≡ true → is_session s ≡ true → own_records t (end_of t s ∷ []) ≡ (s, codes "end") ∷ []
+        by is of = rw (is, of) refl
 
     own : states new t ≡ state_after t old.bound (states old t) (map (λ s. (s, codes "end")) (all ++ s ∷ []))
     own =

@@ -1,20 +1,18 @@
 -- The steps of a run, what they are recorded as, and what their records make.
-use Rattle.std.proofs.Common.{◌≡◌, ◌⊎◌, ℕ, ◌+◌, ◌/◌, ◌%◌, Bool, true, false, cond, ◌==◌, ◌&&◌, nat_lt, List, [], ◌∷◌, ◌++◌, length, codes, Option, Some, None, Result, Ok, Err, refl, sym, ap, ◌∙◌, subst, inl, inr, append-nil, IsTrue, IsFalse}
-use Rattle.std.specs.List.{cons_option, filter_map}
+use Rattle.std.proofs.Common.{◌≡◌, ℕ, ◌/◌, ◌%◌, Bool, true, false, cond, ◌==◌, ◌&&◌, nat_lt, List, [], ◌∷◌, ◌++◌, codes, Option, Some, None, Result, Ok, Err, refl, sym, ap, ◌∙◌, subst, inl, inr, IsTrue}
 use Rattle.std.proofs.lemmas.Bool.{eqb-true, eq-eqb}
 use Rattle.std.proofs.lemmas.List.Elements.{filter_map-append}
 use Rattle.sb_durable.specs.Records.{Entry as Record}
 use Rattle.sb_tenant.specs.declared.reply.Answer.{Answer}
-use Rattle.sb_tenant.specs.declared.reply.Entry.{Entry}
 use Rattle.sb_tenant.specs.Limits.{is_session}
 use Rattle.sb_tenant.specs.State.{State, opening}
 use Rattle.sb_tenant.specs.Step.{step}
-use Rattle.sb_tenant.specs.Trail.{Extends, IsFull, Steps, entry_of, is_no_memory, state_after, state_of}
+use Rattle.sb_tenant.specs.Trail.{Steps, entry_of, is_no_memory, state_after, state_of}
 use Rattle.sb_cell.specs.declared.Event.{Event}
 use Rattle.sb_cell.specs.declared.StepError.{StepError}
 use Rattle.sb_cell.specs.declared.StepError.TheVariants.{NoTenant, NoSession, NotBegun}
 use Rattle.sb_cell.specs.Events.{IsTurn, IsEvent}
-use Rattle.sb_cell.specs.Tenants.{Cell, IsSame, AnswersBy, AnswersEvent, hosts, trail_of, trails, states, tenant_at}
+use Rattle.sb_cell.specs.Tenants.{Cell, IsSame, AnswersBy, AnswersEvent, hosts, trail_of, trails, states}
 use Rattle.sb_durable.specs.Restart.{Remembers, made_of, own_record, own_records}
 use Rattle.sb_durable.specs.Runs.{record_of_answer, records_of}
 use Rattle.sb_durable.proofs.Replaying.{one}
@@ -59,11 +57,11 @@ module _ (old new : Cell) (e : Event) (given : Result Answer StepError) where
       by None = refl
       by (Some n) = rw other refl
 
-  own : (answer : Answer) (n : ℕ) → answer.number ≡ Some n → own_records e.tenant (records_of (e, Ok answer)) ≡ (e.session, cond (is_no_memory answer.reply) (codes "rollback") e.line) ∷ []
-  own answer n is = ap (λ k. own_records e.tenant (record_of_answer e answer k)) is ∙ by (eq-eqb e.tenant e.tenant refl)
+  own : IsTrue (is_session e.session) → (answer : Answer) (n : ℕ) → answer.number ≡ Some n → own_records e.tenant (records_of (e, Ok answer)) ≡ (e.session, cond (is_no_memory answer.reply) (codes "rollback") e.line) ∷ []
+  own one answer n is = ap (λ k. own_records e.tenant (record_of_answer e answer k)) is ∙ by (eq-eqb e.tenant e.tenant refl) one
     where
-      by : (e.tenant == e.tenant) ≡ true → own_records e.tenant (record_of_answer e answer (Some n)) ≡ (e.session, cond (is_no_memory answer.reply) (codes "rollback") e.line) ∷ []
-      by same = rw same refl
+      by : (e.tenant == e.tenant) ≡ true → is_session e.session ≡ true → own_records e.tenant (record_of_answer e answer (Some n)) ≡ (e.session, cond (is_no_memory answer.reply) (codes "rollback") e.line) ∷ []
+      by same one = rw (same, one) refl
 
   -- from what a tenant was, the records lead where the step did
   abbrev Leads : ℕ → Type 0
@@ -74,33 +72,45 @@ module _ (old new : Cell) (e : Event) (given : Result Answer StepError) where
   stays u none same = ap (state_after u old.bound (states old u)) none ∙ ap (state_of u old.bound) (sym same)
 
   -- the step's own
-  moves : (answer : Answer) → given ≡ Ok answer → Steps e.tenant old.bound (trails old e.tenant) e.session e.line answer (trails new e.tenant) → Leads e.tenant
-  moves answer is (inl (longer, number, next)) =
-      ap (state_after e.tenant old.bound (states old e.tenant)) (ap (λ g. own_records e.tenant (records_of (e, g))) is ∙ own answer _ number)
+  moves : IsTrue (is_session e.session) → (answer : Answer) → given ≡ Ok answer → Steps e.tenant old.bound (trails old e.tenant) e.session e.line answer (trails new e.tenant) → Leads e.tenant
+  moves one_of answer is (inl (longer, number, next)) =
+      ap (state_after e.tenant old.bound (states old e.tenant)) (ap (λ g. own_records e.tenant (records_of (e, g))) is ∙ own one_of answer _ number)
       ∙ (one e.tenant old.bound (states old e.tenant) (state_of e.tenant old.bound (trails new e.tenant)) (entry_of e.session e.line answer.reply) next.1).0
-  moves answer is (inr (full, none, same)) =
+  moves one_of answer is (inr (full, none, same)) =
       stays e.tenant (ap (λ g. own_records e.tenant (records_of (e, g))) is ∙ ap (λ (a : Answer). own_records e.tenant (record_of_answer e answer a.number)) none) same
 
-  turns : (g : Result Answer StepError) → given ≡ g → IsTurn old.bound e.tenant (trails old e.tenant) (e.session, e.line) g (trails new e.tenant) → Leads e.tenant
-  turns (Ok answer) is turn = moves answer is turn
-  turns (Err NotBegun) is turn = stays e.tenant (ap (λ g. own_records e.tenant (records_of (e, g))) is) turn.0
-  turns (Err NoTenant) is turn = absurd turn
-  turns (Err NoSession) is turn = absurd turn
+  turns : IsTrue (is_session e.session) → (g : Result Answer StepError) → given ≡ g → IsTurn old.bound e.tenant (trails old e.tenant) (e.session, e.line) g (trails new e.tenant) → Leads e.tenant
+  turns one_of (Ok answer) is turn = moves one_of answer is turn
+  turns one_of (Err NotBegun) is turn = stays e.tenant (ap (λ g. own_records e.tenant (records_of (e, g))) is) turn.0
+  turns one_of (Err NoTenant) is turn = absurd turn
+  turns one_of (Err NoSession) is turn = absurd turn
 
   refused : (error : StepError) → given ≡ Err error → new ≡ old → (u : ℕ) → Leads u
   refused error is same u = stays u (ap (λ g. own_records u (records_of (e, g))) is) (ap (λ (c : Cell). trails c u) same)
 
-  leads_by : (h b : Bool) → AnswersBy h b old e.tenant e.session e.line given new → (u : ℕ) → Leads u
-  leads_by false b p u = refused NoTenant p.0 p.1 u
-  leads_by true false p u = refused NoSession p.0 p.1 u
-  leads_by true true (turn, others, same) u = by (u == e.tenant) refl
+  none_recorded : (error : StepError) → given ≡ Err error → (r : Record) → records_of (e, given) ≡ r ∷ [] → ⊥
+  none_recorded error is r recorded = let none : [] ≡ r ∷ [] = ap (λ g. records_of (e, g)) (sym is) ∙ recorded in cc
+
+  leads_by : (h b : Bool) → is_session e.session ≡ b → AnswersBy h b old e.tenant e.session e.line given new → (u : ℕ) → Leads u
+  leads_by false b one p u = refused NoTenant p.0 p.1 u
+  leads_by true false one p u = refused NoSession p.0 p.1 u
+  leads_by true true one (turn, others, same) u = by (u == e.tenant) refl
     where
       by : (b : Bool) → (u == e.tenant) ≡ b → Leads u
-      by true is = subst Leads (sym (eqb-true u e.tenant is)) (turns given refl turn)
+      by true is = subst Leads (sym (eqb-true u e.tenant is)) (turns one given refl turn)
       by false is = stays u (not_own u is given) (ap trail_of (others u is))
 
   pub leads : AnswersEvent old e.tenant e.session e.line given new → (u : ℕ) → Leads u
-  leads answers u = leads_by (hosts old e.tenant) (is_session e.session) answers u
+  leads answers u = leads_by (hosts old e.tenant) (is_session e.session) refl answers u
+
+  -- what is recorded is of a session
+  session_by : (h b : Bool) → is_session e.session ≡ b → (r : Record) → records_of (e, given) ≡ r ∷ [] → AnswersBy h b old e.tenant e.session e.line given new → IsTrue (is_session e.session)
+  session_by false b one r is p = absurd (none_recorded NoTenant p.0 r is)
+  session_by true false one r is p = absurd (none_recorded NoSession p.0 r is)
+  session_by true true one r is p = one
+
+  pub is_of_session : (r : Record) → records_of (e, given) ≡ r ∷ [] → AnswersEvent old e.tenant e.session e.line given new → IsTrue (is_session e.session)
+  is_of_session r is answers = session_by (hosts old e.tenant) (is_session e.session) refl r is answers
 
   -- so with its records the journal remembers it
   pub remembers_more : (records : List Record) → Remembers old records → IsSame old new → AnswersEvent old e.tenant e.session e.line given new → Remembers new (records ++ records_of (e, given))

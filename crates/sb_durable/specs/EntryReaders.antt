@@ -1,5 +1,5 @@
 -- Machine: what is noted of a trail while its cell's lock is held.
-use Rattle.std.specs.Prelude.{◌≡◌, ℕ, ◌≤◌, Bool, true, false, List, length, map, take, drop, codes, cond, Option, Some, None, unwrap_or}
+use Rattle.std.specs.Prelude.{◌≡◌, ℕ, ◌≤◌, Bool, true, false, List, length, map, take, drop, codes, cond, Some, None, unwrap_or}
 use Rattle.sb_durable.specs.Records.{Entry as Record}
 use Rattle.sb_tenant.specs.declared.reply.Entry.{Entry}
 use Rattle.sb_tenant.specs.Trail.{is_no_memory}
@@ -8,6 +8,8 @@ use Rattle.sb_durable.specs.declared.entry_reader.PendingEntry.{PendingEntry}
 use Rattle.sb_durable.specs.declared.entry_reader.EntryReader.{EntryReader}
 use Rattle.sb_durable.specs.declared.entry_reader.ReadReach.{ReadReach}
 use Rattle.sb_durable.specs.declared.entry_reader.ReadReach.TheVariants.{Nowhere, Part, End, NoMemory}
+use Rattle.sb_durable.specs.declared.recorded_reach.RecordedReach.{RecordedReach}
+use Rattle.sb_durable.specs.Recording.{GoesOn}
 
 abbrev pub note_of : Entry → PendingEntry
 note_of e = record { session = e.session; line = cond (is_no_memory e.reply) None (Some e.line) }
@@ -29,15 +31,20 @@ NotesAll entries notes NoMemory = Unit {0}
 NotesAll entries notes Part = IsFront entries notes
 NotesAll entries notes End = IsFront entries notes × (length notes ≡ length entries)
 
--- the entries behind so many
-abbrev pub NotesBehind : ℕ → List Entry → List PendingEntry → ReadReach → Type 0
-NotesBehind from trail notes Nowhere = Unit {0}
-NotesBehind from trail notes NoMemory = Unit {0}
-NotesBehind from trail notes Part = (from ≤ length trail) × IsFront (drop from trail) notes
-NotesBehind from trail notes End = (from ≤ length trail) × IsFront (drop from trail) notes × (length notes ≡ length (drop from trail))
+-- it is a place in the tenant's volume
+abbrev pub IsPlaceIn : Tenant → RecordedReach → Type 0
+IsPlaceIn own at = (at.volume ≡ own.volume) × (at.entries ≤ length own.trail)
 
+-- the entries behind it
+abbrev pub NotesBehind : RecordedReach → Tenant → List PendingEntry → ReadReach → Type 0
+NotesBehind at own notes Nowhere = Unit {0}
+NotesBehind at own notes NoMemory = Unit {0}
+NotesBehind at own notes Part = IsPlaceIn own at × IsFront (drop at.entries own.trail) notes
+NotesBehind at own notes End = IsPlaceIn own at × IsFront (drop at.entries own.trail) notes × (length notes ≡ length (drop at.entries own.trail))
+
+-- from where the recording of the tenant goes on
 abbrev pub Reads : EntryReader → Tenant → EntryReader → Type 0
-Reads old own new = IsLegal own × NotesBehind old.from own.trail new.list.items new.reach
+Reads old own new = IsLegal own × GoesOn old.start.reach new.start.reach new.start.is_renewed × NotesBehind new.start.reach own new.list.items new.reach
 
 -- whether all was staged that there is
 abbrev pub IsStaged : ReadReach → Bool → Type 0

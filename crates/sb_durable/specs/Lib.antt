@@ -1,6 +1,7 @@
 pub mod Recording
 pub mod EntryReaders
 pub mod RecordedTrails
+pub mod RecordedLives
 pub mod Restart
 pub mod Runs
 pub mod Recorded

@@ -1,8 +1,11 @@
 -- Promise: what the steps of trails are recorded as, and what is recorded of them.
-use Rattle.std.specs.Prelude.{◌≡◌, ◌⊎◌, ℕ, ◌+◌, ◌≤◌, ◌<◌, Bool, true, false, List, [], ◌∷◌, ◌++◌, length, map, take, drop, slice_index, slice_set, codes, cond, Contains}
+use Rattle.std.specs.Prelude.{◌≡◌, ◌⊎◌, ℕ, ◌+◌, ◌≤◌, Bool, true, false, List, [], ◌∷◌, ◌++◌, Some, length, map, take, drop, slice_get, slice_set, codes, cond, Contains}
 use Rattle.sb_durable.specs.Records.{Entry as Record}
+use Rattle.sb_durable.specs.declared.recorded_reach.RecordedReach.{RecordedReach}
+use Rattle.sb_tenant.specs.Limits.{session_count}
+use Rattle.sb_tenant.specs.Volumes.{first_volume, following}
 use Rattle.sb_tenant.specs.declared.reply.Entry.{Entry}
-use Rattle.sb_tenant.specs.State.{State, opening}
+use Rattle.sb_tenant.specs.State.{opening}
 use Rattle.sb_tenant.specs.Trail.{is_no_memory, IsTrail, state_of, state_after}
 use Rattle.sb_tenant.specs.Tenant.{Tenant, IsLegal}
 
@@ -19,18 +22,44 @@ record_of tenant e = record { tenant = tenant; session = e.session; line = line_
 abbrev pub played : Entry → ℕ × List ℕ
 played e = (e.session, line_of e)
 
+-- ---- one renewal
+
+-- no session has this number
+abbrev pub renewal_of : ℕ → Record
+renewal_of tenant = record { tenant = tenant; session = session_count; line = codes "renew" }
+
+abbrev pub renewals_of : ℕ → Bool → List Record
+renewals_of tenant false = []
+renewals_of tenant true = renewal_of tenant ∷ []
+
 module _ (tenant bound : ℕ) where
   -- The lines that a legal trail is recorded as make its state again.
   abbrev pub RecordsMakeTheState : Type 0
   RecordsMakeTheState =
       (trail : List Entry) → IsTrail tenant bound trail → state_after tenant bound opening (map played trail) ≡ state_of tenant bound trail
 
+-- ---- how far a tenant is recorded
+
+-- before its first step
+abbrev pub first_reach : RecordedReach
+first_reach = record { volume = first_volume; entries = 0 }
+
+-- Its volume ends there. The next one is recorded as far as its opening goes, which no session made.
+abbrev pub renewed : RecordedReach → ℕ → RecordedReach
+renewed reach opening = record { volume = following reach.volume reach.entries opening; entries = opening }
+
+-- Where recording goes on: at the same place, or behind a renewal. The volume that it finds then is the one that follows, and counts as many entries before it as are recorded. So all of them are, and there was no other renewal.
+abbrev pub GoesOn : RecordedReach → RecordedReach → Bool → Type 0
+GoesOn reach at false = at ≡ reach
+GoesOn reach at true = at ≡ renewed reach at.volume.opening
+
 -- ---- what is recorded
 
--- of a tenant as it stood then, so many entries behind so many others
+-- of a tenant as it stood then, so many entries of its volume behind so many others; a renewal stands before them or doesn't
 pub record Part : Type 0 where
   pub tenant : ℕ
   pub own : Tenant
+  pub is_renewed : Bool
   pub from : ℕ
   pub count : ℕ
 
@@ -39,17 +68,23 @@ entries_of part = take part.count (drop part.from part.own.trail)
 
 abbrev pub records_of : List Part → List Record
 records_of [] = []
-records_of (part ∷ parts) = map (record_of part.tenant) (entries_of part) ++ records_of parts
+records_of (part ∷ parts) = renewals_of part.tenant part.is_renewed ++ map (record_of part.tenant) (entries_of part) ++ records_of parts
 
--- it is of the tenant of its number, begins where that tenant's records end, and lies within a legal trail
-abbrev pub IsNextPart : List ℕ → Part → Type 0
-IsNextPart counts part =
-    (part.tenant < length counts) × (part.own.id ≡ part.tenant) × (part.from ≡ slice_index counts part.tenant) × (part.from + part.count ≤ length part.own.trail) × IsLegal part.own
+-- its volume, up to such a place
+abbrev pub reach_of : Part → ℕ → RecordedReach
+reach_of part entries = record { volume = part.own.volume; entries = entries }
 
--- so many entries of each tenant are recorded, before these parts and after them
-abbrev pub Counts : List ℕ → List Part → List ℕ → Type 0
-Counts counts [] new = new ≡ counts
-Counts counts (part ∷ parts) new = IsNextPart counts part × Counts (slice_set counts part.tenant (part.from + part.count)) parts new
+-- it is of the tenant of its number, which is recorded so far, begins where recording goes on, and lies within a legal trail
+abbrev pub IsNextPart : RecordedReach → Part → Type 0
+IsNextPart reach part =
+    (part.own.id ≡ part.tenant) × GoesOn reach (reach_of part part.from) part.is_renewed × (part.from + part.count ≤ length part.own.trail) × IsLegal part.own
+
+-- how far each tenant is recorded, before these parts and after them
+abbrev pub Counts : List RecordedReach → List Part → List RecordedReach → Type 0
+Counts reaches [] new = new ≡ reaches
+Counts reaches (part ∷ parts) new =
+    ((reach : RecordedReach) × (slice_get reaches part.tenant ≡ Some reach) × IsNextPart reach part)
+    × Counts (slice_set reaches part.tenant (reach_of part (part.from + part.count))) parts new
 
 -- each of them is this tenant's
 abbrev pub AreOf : ℕ → List Part → Type 0

@@ -1,5 +1,7 @@
 -- Promise: what playing records to a host leaves.
-use Rattle.std.specs.Prelude.{◌≡◌, ◌⊎◌, ◌<◌, ◌+◌, ◌*◌, ℕ, true, false, List, [], ◌∷◌, ◌++◌, Option, Some, None, length, map, option_map, option_to_list, replicate, slice_get, slice_set, codes, ⊤}
+use Rattle.std.specs.Prelude.{◌≡◌, ◌⊎◌, ◌<◌, ◌+◌, ◌*◌, ℕ, zero, suc, true, false, List, [], ◌∷◌, ◌++◌, Option, Some, None, Vec, length, map, flat_map, sum_by, option_map, option_to_list, replicate, slice_get, slice_set, codes, ⊤}
+use Rattle.std.specs.Global.{Global}
+use Rattle.sb_backup.specs.Renewals.{Renewed}
 use Rattle.sb_tenant.specs.Limits.{session_count}
 use Rattle.sb_tenant.specs.Trail.{is_no_memory}
 use Rattle.sb_tenant.specs.declared.reply.Answer.{Answer}
@@ -8,27 +10,39 @@ use Rattle.sb_desk.specs.Receipts.{newcomer}
 use Rattle.sb_desk.specs.Stubs.{LeavesStub}
 use Rattle.sb_desk.specs.declared.stub.Stub.{Stub}
 use Rattle.sb_durable.specs.Records.{Entry as Record}
+use Rattle.sb_durable.specs.Recording.{first_reach, renewal_of, renewed}
+use Rattle.sb_durable.specs.declared.recorded_reach.RecordedReach.{RecordedReach}
 
 -- one record after another
 abbrev pub PlaysAll : {S : Type 0} → (S → Record → S → Type 0) → S → List Record → S → Type 0
 PlaysAll plays old [] new = new ≡ old
 PlaysAll {S} plays old (r ∷ rs) new = (mid : S) × plays old r mid × PlaysAll plays mid rs new
 
--- the sessions that are open, each at its place; what those that have ended left; and the number of each tenant's newest step
+-- the sessions that are open, each at its place; what those that have ended left of each tenant's trail; and how far each tenant is played
 pub record Playing : Type 0 where
   pub sessions : List (Option Session)
-  pub stubs : List Stub
-  pub steps : List ℕ
+  pub stubs : List (List Stub)
+  pub reaches : List RecordedReach
 
--- what a clause sees of sessions, by what it sees of each of them
-abbrev pub playing_of : {S : Type 0} → (S → Session) → List (Option S) → List Stub → List ℕ → Playing
-playing_of seen sessions stubs steps = record { sessions = map (option_map seen) sessions; stubs = stubs; steps = steps }
+-- what a clause sees of sessions and stubs, by what it sees of each of them
+abbrev pub playing_of : {S : Type 0} → (S → Session) → List (Option S) → List (Vec Stub Global) → List RecordedReach → Playing
+playing_of seen sessions stubs reaches = record { sessions = map (option_map seen) sessions; stubs = map (λ own. own.items) stubs; reaches = reaches }
 
 -- no session of these tenants was ever open
 abbrev pub none_open : ℕ → Playing
-none_open tenants = record { sessions = replicate (session_count * tenants) None; stubs = []; steps = replicate tenants 0 }
+none_open tenants = record { sessions = replicate (session_count * tenants) None; stubs = replicate tenants []; reaches = replicate tenants first_reach }
+
+-- the element at this place is changed so
+abbrev pub changed : {A : Type 0} → (A → A) → ℕ → List A → List A
+changed change n [] = []
+changed change zero (x ∷ xs) = change x ∷ xs
+changed change (suc n) (x ∷ xs) = x ∷ changed change n xs
 
 -- ---- one record
+
+-- how many receipts stubs have
+abbrev pub receipts_in : List Stub → ℕ
+receipts_in stubs = sum_by (λ s. length s.receipts.items) stubs
 
 -- where the session of a record stands among those of all tenants
 abbrev pub place_of : Record → ℕ
@@ -45,12 +59,12 @@ Stays own still None = (own.ended ≡ false) × (still ≡ Some own)
 Stays own still (Some stub) = (own.ended ≡ true) × (still ≡ None) × LeavesStub own stub
 
 module _ (old : Playing) (r : Record) (new : Playing) where
-  -- with these at the record's place, so many steps of its tenant, and this behind what others left
+  -- with these at the record's place, so many steps of its tenant's trail, and this behind what its others left
   abbrev pub Becomes : Option Session → ℕ → Option Stub → Type 0
   Becomes still number left = new ≡ record {
     sessions = slice_set old.sessions (place_of r) still;
-    stubs = old.stubs ++ option_to_list left;
-    steps = slice_set old.steps r.tenant number;
+    stubs = changed (λ own. own ++ option_to_list left) r.tenant old.stubs;
+    reaches = changed (λ reach. record { volume = reach.volume; entries = number }) r.tenant old.reaches;
   }
 
   -- an `open` opened the session, and an abort of one that isn't open did nothing
@@ -69,11 +83,24 @@ module _ (old : Playing) (r : Record) (new : Playing) where
   PlaysBy None = Begins
   PlaysBy (Some session) = CallsOn session
 
-  -- a record was played: its line is one of its session of its tenant
+  -- its line is one of its session
+  abbrev pub PlaysStep : Type 0
+  PlaysStep = (r.session < session_count) × ((found : Option Session) × (slice_get old.sessions (place_of r) ≡ Some found) × PlaysBy found)
+
+  -- A tenant without an open session was renewed: one in a state that is alike, and not the same, took its place (`Renewed`). What its opening left is in the place of what its sessions had left, and it is played as far as the opening goes.
+  abbrev pub PlaysRenewal : Type 0
+  PlaysRenewal =
+      (r ≡ renewal_of r.tenant) × ((s : ℕ) → s < session_count → slice_get old.sessions (session_count * r.tenant + s) ≡ Some None)
+      × ((left opening : List Stub) × (slice_get old.stubs r.tenant ≡ Some left) × Renewed r.tenant left opening
+      × (new ≡ record {
+        sessions = old.sessions;
+        stubs = slice_set old.stubs r.tenant opening;
+        reaches = changed (λ reach. renewed reach (receipts_in opening)) r.tenant old.reaches;
+      }))
+
+  -- a record was played
   abbrev pub PlaysLine : Type 0
-  PlaysLine =
-      (r.tenant < length old.steps) × (r.session < session_count)
-      × ((found : Option Session) × (slice_get old.sessions (place_of r) ≡ Some found) × PlaysBy found)
+  PlaysLine = (r.tenant < length old.reaches) × (PlaysStep ⊎ PlaysRenewal)
 
 -- ---- all of them
 
@@ -90,11 +117,11 @@ AreClosed [] stubs = stubs ≡ []
 AreClosed (session ∷ more) stubs =
     (left : Option Stub) × (others : List Stub) × (stubs ≡ option_to_list left ++ others) × IsClosed session left × AreClosed more others
 
--- Records were played one after another to a host with so many tenants. Its sessions, all of which are closed now, left these stubs. Each tenant's newest step before they were closed has this number, or 0 where there is none.
-pub record LeavesPlayed (tenants : ℕ) (records : List Record) (stubs : List Stub) (steps : List ℕ) : Type 0 where
+-- Records were played one after another to a host with so many tenants. Its sessions, all of which are closed now, left these stubs of each tenant's newest trail. Before they were closed each tenant was played so far.
+pub record LeavesPlayed (tenants : ℕ) (records : List Record) (stubs : List Stub) (reaches : List RecordedReach) : Type 0 where
   pub last : Playing
   pub plays : PlaysAll PlaysLine (none_open tenants) records last
   pub closed : List Stub
   pub are_closed : AreClosed last.sessions closed
-  pub stubs_are : stubs ≡ last.stubs ++ closed
-  pub steps_are : steps ≡ last.steps
+  pub stubs_are : stubs ≡ flat_map (λ own. own) last.stubs ++ closed
+  pub reaches_are : reaches ≡ last.reaches

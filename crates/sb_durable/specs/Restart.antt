@@ -1,5 +1,5 @@
 -- Promise: a tenant after a restart, and a journal that tells what the tenants of a cell are.
-use Rattle.std.specs.Prelude.{◌≡◌, ℕ, ◌==◌, if◌then◌else◌, List, map, filter, filter_map, codes, Option, Some, None, IsTrue, []}
+use Rattle.std.specs.Prelude.{◌≡◌, ℕ, ◌==◌, ◌&&◌, if◌then◌else◌, List, map, filter, filter_map, codes, Option, Some, None, IsTrue, []}
 use Rattle.std.specs.List.{AllByRecursion}
 use Rattle.sb_value.specs.Locks.{sessions}
 use Rattle.sqlite_disk.specs.declared.Disk.{Ghosts}
@@ -7,13 +7,14 @@ use Rattle.sb_durable.specs.Journal.{Has}
 use Rattle.sb_durable.specs.Records.{Entry as Record, IsEntry}
 use Rattle.sb_durable.specs.declared.journal_header.Head.{Head}
 use Rattle.sb_durable.specs.declared.journal.Journal.{Journal}
+use Rattle.sb_tenant.specs.Limits.{is_session}
 use Rattle.sb_tenant.specs.State.{State, opening, session_at, is_open}
 use Rattle.sb_tenant.specs.Trail.{state_after}
 use Rattle.sb_cell.specs.Tenants.{Cell, hosts, states}
 
--- the session and the line of a tenant's record
+-- the session and the line of a tenant's record; a renewal is no line of a session
 abbrev pub own_record : ℕ → Record → Option (ℕ × List ℕ)
-own_record t r = if t == r.tenant then Some (r.session, r.line) else None
+own_record t r = if (t == r.tenant) && is_session r.session then Some (r.session, r.line) else None
 
 -- those of all its records, in order
 abbrev pub own_records : ℕ → List Record → List (ℕ × List ℕ)

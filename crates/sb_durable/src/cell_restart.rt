@@ -6,9 +6,11 @@ ghost use Rattle.sb_durable.specs.Records.{Entry};
 ghost use Rattle.sb_durable.specs.declared.journal_header.Head.{Head};
 ghost use Rattle.sb_tenant.specs.State.{is_open, session_at};
 ghost use Rattle.sb_value.specs.Locks.{sessions};
-ghost use Rattle.sb_durable.specs.ReplayedRecords.{EndsSessions, KeepsUp, PlaysRecord};
+ghost use Rattle.sb_durable.specs.ReplayedRecords.{EndsSessions, KeepsUp, PlaysStep};
+ghost use Rattle.sb_durable.specs.Records.{entry_of};
 ghost use Rattle.sb_durable.specs.Restart.{AreRecords, IsRestarted, Tells};
 
+use crate::record::is_renewal;
 use crate::record_player::number_of;
 use crate::replay::{PlayError, PlayFault, Plays, Progress, play_all};
 use crate::run::{Recording, step};
@@ -57,15 +59,29 @@ impl Plays for Cell {
     ghost plays = { PlaysRecord };
 
     fn play<T: Wait>(&mut self, _rt: &T, alloc: Global, line: Record) -> Result<(), PlayFault> {
-        match self.step(alloc, line.tenant, u32::from(line.session), line.text) {
-            Ok(answer) => match number_of(&answer) {
-                Ok(_) => Ok(()),
-                Err(why) => Err(why),
-            },
-            Err(StepError::NoTenant) => Err(PlayFault::NoTenant),
-            Err(StepError::NoSession) => Err(PlayFault::NoSession),
-            Err(StepError::NotBegun) => Err(PlayFault::NoMemory),
+        if !is_renewal(line) {
+            return play_step(self, alloc, line);
         }
+        // the trail goes on: a cell of a run renews no tenant
+        match self.tenant(line.tenant) {
+            Some(_) => Ok(()),
+            None => Err(PlayFault::NoTenant),
+        }
+    }
+}
+
+/// Makes the step of a record.
+fn play_step(cell: &mut Cell, alloc: Global, line: Record) -> Result<(), PlayFault>
+    ensures { OnOk result (PlaysStep cell.old (entry_of line.entry) cell.new) }
+{
+    match cell.step(alloc, line.tenant, u32::from(line.session), line.text) {
+        Ok(answer) => match number_of(&answer) {
+            Ok(_) => Ok(()),
+            Err(why) => Err(why),
+        },
+        Err(StepError::NoTenant) => Err(PlayFault::NoTenant),
+        Err(StepError::NoSession) => Err(PlayFault::NoSession),
+        Err(StepError::NotBegun) => Err(PlayFault::NoMemory),
     }
 }
 
@@ -113,7 +129,7 @@ fn end_session<D: Disk>(
     tenant: u32,
     session: u32,
 ) -> Result<(), PlayFault>
-    ensures ends { OnOk result (PlaysRecord cell.old (record { tenant = tenant; session = session; line = codes "end" }) cell.new) }
+    ensures ends { OnOk result (PlaysStep cell.old (record { tenant = tenant; session = session; line = codes "end" }) cell.new) }
     ensures keeps { OnOk result (KeepsUp D.Disk.seen D.Disk.may_leave (cell.old, recording.old) (cell.new, recording.new)) }
     ensures fault { recording.new.fault ≡ recording.old.fault }
     ensures clean { IsTrue (D.Disk.is_clean (disk_of recording.new.journal)) → IsTrue (D.Disk.is_clean (disk_of recording.old.journal)) }

@@ -10,9 +10,9 @@ use crate::{
     File as JournalFile, Head, Journal, JournalError, Record, Syncing, Wary, open_path, sync_folder,
 };
 use sb_backup::{NotedScript, Script, ScriptNotes, noted_of, undumped};
-use sb_host::{Host, Lending, Naming, Opened};
+use sb_host::{Host, Naming, Opened, Renewing};
 use sb_wire::{LINE_LIMIT, StreamError};
-use sb_words::{Log, Run};
+use sb_words::{CompactWords, Log};
 use std::alloc::Global;
 use std::fs::{self, File};
 use std::io;
@@ -22,39 +22,20 @@ use std::sync::Wait;
 
 const OUT_OF_MEMORY: JournalFault = JournalFault::Stream(StreamError::NoMemory);
 
-/// Writes the tenants of the journal `old` as a new journal `new`. The name must be free; it appears when the whole
+/// Writes the tenants of the old journal as a new one. The name must be free; it appears when the whole
 /// file is durable. Error: the old one can't be opened, a tenant has no script, or the new one can't be written.
 pub fn compact<T: Wait + Clock + Files<File = File>, O: Log>(
     rt: &T,
     alloc: Global,
     log: &O,
-    run: Run,
-    old: Option<&str>,
-    new: Option<&str>,
+    words: CompactWords<'_>,
 ) -> Result<(), JournalFault>
-    requires { AreRun run }
+    requires { AreRun words.run }
 {
-    let (Some(old), Some(new)) = (old, new) else {
-        return Err(JournalFault::CannotOpen);
-    };
-    match Opened::new(alloc, run.tenants, 1, run.bound) {
-        Ok(opened) => compact_host::<Brand, T, O>(
-            rt,
-            alloc,
-            log,
-            opened,
-            run,
-            Renewal { old, new },
-        ),
+    match Opened::new(alloc, words.run.tenants, 1, words.run.bound) {
+        Ok(opened) => compact_host::<Brand, T, O>(rt, alloc, log, opened, words),
         Err(_) => Err(OUT_OF_MEMORY),
     }
-}
-
-/// The paths of a journal and of the new one.
-#[derive(Clone, Copy)]
-struct Renewal<'p> {
-    old: &'p str,
-    new: &'p str,
 }
 
 /// Replays the old journal on a host of these parts, and writes the new one.
@@ -63,11 +44,10 @@ fn compact_host<N: Naming, T: Wait + Clock + Files<File = File>, O: Log>(
     alloc: Global,
     log: &O,
     opened: Opened,
-    run: Run,
-    paths: Renewal<'_>,
+    words: CompactWords<'_>,
 ) -> Result<(), JournalFault>
     requires named { AreNames N.table N.tenants N.cells N.bound N.name N.parts opened }
-    requires bound { run.bound ≤ 1000 }
+    requires bound { words.run.bound ≤ 1000 }
 {
     let Ok(host) = Host::<N>::new(alloc, opened) else {
         return Err(OUT_OF_MEMORY);
@@ -76,15 +56,15 @@ fn compact_host<N: Naming, T: Wait + Clock + Files<File = File>, O: Log>(
         rt,
         alloc,
         host: &host,
-        bound: run.bound,
+        bound: words.run.bound,
         head: Head {
-            tenants: run.tenants,
-            bound: u64::from(run.bound),
+            tenants: words.run.tenants,
+            bound: u64::from(words.run.bound),
         },
         log,
     };
-    match compaction.play(paths.old) {
-        Ok(()) => compaction.write(paths.new),
+    match compaction.play(words.old) {
+        Ok(()) => compaction.write(words.new),
         Err(why) => Err(why),
     }
 }
@@ -101,7 +81,7 @@ struct Compaction<'c, H, T, O> {
     ghost few: { bound ≤ 1000 },
 }
 
-impl<'c, H: Lending, T: Wait + Clock + Files<File = File>, O: Log> Compaction<'c, H, T, O> {
+impl<'c, H: Renewing, T: Wait + Clock + Files<File = File>, O: Log> Compaction<'c, H, T, O> {
     /// Replays the journal at this path.
     fn play(&self, path: &str) -> Result<(), JournalFault> {
         if let Err(error) = fs::metadata(self.rt, path) {

@@ -1,7 +1,8 @@
 //! What a trail has beyond what is recorded, noted while the cell's lock is held.
-ghost use Rattle.std.specs.Prelude.{◌≡◌, [], IfOk};
+ghost use Rattle.std.specs.Prelude.{◌≡◌, [], false, IfOk};
 ghost use Rattle.sb_durable.specs.EntryReaders.{NotesAll, note_of, text_of};
 
+use crate::recorded_reach::{RecordingStart, start_in};
 use sb_host::Reading;
 use sb_tenant::{Entry, Line, Reply, Tenant};
 use sb_value::{Refusal, SessionId};
@@ -50,7 +51,7 @@ impl PendingEntry {
 /// How far the entries were read.
 #[derive(Clone, Copy)]
 pub(crate) enum ReadReach {
-    /// There is no tenant, or no such place in its trail.
+    /// There is no tenant, or it doesn't go on where it is recorded.
     Nowhere,
     /// The buffer is full. More entries follow.
     Part,
@@ -59,10 +60,11 @@ pub(crate) enum ReadReach {
     NoMemory,
 }
 
-/// Reads the entries of a tenant from a place on.
+/// Reads the entries of a tenant from where its recording goes on.
 #[derive(Drop)]
 pub(crate) struct EntryReader {
-    pub(crate) from: usize,
+    /// How far it is recorded; once it is read, where that goes on.
+    pub(crate) start: RecordingStart,
     /// The most bytes of their records.
     pub(crate) room: usize,
     pub(crate) list: Vec<PendingEntry>,
@@ -76,12 +78,28 @@ impl Reading for EntryReader {
 
     fn read(&mut self, tenant: &Tenant) {
         let trail = tenant.trail();
-        if self.from > trail.len() {
-            self.reach = ReadReach::Nowhere;
+        let Some(start) = start_in(self.start.reach, tenant.volume()) else {
+            self.stay();
+            return;
+        };
+        let from = start.reach.entries as usize;
+        if from > trail.len() {
+            self.stay();
             return;
         }
+        self.start = start;
         self.list.clear();
-        self.reach = note_all(&mut self.list, &trail[self.from..], self.room);
+        self.reach = note_all(&mut self.list, &trail[from..], self.room);
+    }
+}
+
+impl EntryReader {
+    /// Nothing is read.
+    fn stay(&mut self)
+        ensures { self.new ≡ record self.old { start = record (self.old).start { is_renewed = false }; reach = ReadReach.Nowhere } }
+    {
+        self.start.is_renewed = false;
+        self.reach = ReadReach::Nowhere;
     }
 }
 

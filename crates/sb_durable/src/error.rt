@@ -19,6 +19,9 @@ pub enum JournalError {
     /// An earlier write or sync has failed in this run.
     #[error("a write of it has failed before")]
     Spent,
+    /// A tenant was renewed before all steps of its trail were recorded.
+    #[error("a tenant was renewed before its steps were recorded")]
+    Unrecorded,
     /// There is no room in the buffer, or the file has its greatest length.
     #[error("there is no room in it")]
     Full,

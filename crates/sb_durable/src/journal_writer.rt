@@ -1,14 +1,16 @@
 //! The journal, and how much of each trail is recorded in it.
-ghost use Rattle.std.specs.Prelude.{◌≡◌, ◌⊎◌, ◌+◌, ◌<◌, ◌≤◌, ◌++◌, [], ◌∷◌, List, ℕ, true, length, is_ok, IfOk, IfErr, OnOk, OnErr, IsErr, IsTrue};
+ghost use Rattle.std.specs.Prelude.{◌≡◌, ◌⊎◌, ◌+◌, ◌<◌, ◌≤◌, ◌++◌, [], ◌∷◌, List, ℕ, true, length, slice_set, is_ok, IfOk, IfErr, OnOk, OnErr, IsErr, IsTrue};
 ghost use Rattle.sb_durable.specs.Log.{IsSpent};
 ghost use Rattle.sb_durable.specs.Records.{Entry};
 ghost use Rattle.sb_durable.specs.Journal.{Has};
 ghost use Rattle.sb_durable.specs.declared.journal_header.Head.{Head};
 ghost use Rattle.sb_durable.specs.EntryReaders.{record_of_note};
-ghost use Rattle.sb_durable.specs.Recording.{Part, records_of, AreAmong, AreOf, Reaches};
+ghost use Rattle.sb_durable.specs.Recording.{Part, records_of, renewals_of, AreAmong, AreOf, Reaches};
 
 use crate::entry_reader::{EntryReader, PendingEntry, ReadReach};
-use crate::{Disk, Journal, JournalError, Record};
+use crate::record::{RENEWAL_SIZE, renewal};
+use crate::recorded_reach::RecordingStart;
+use crate::{Disk, Journal, JournalError, Record, RecordedReach};
 use sb_host::Lending;
 use sb_wire::LINE_LIMIT;
 use std::alloc::Global;
@@ -18,13 +20,13 @@ use std::sync::Wait;
 pub(crate) struct JournalWriter<D: Disk> {
     pub(crate) alloc: Global,
     pub(crate) journal: Journal<D>,
-    /// The number of recorded entries of each tenant's trail.
-    pub(crate) recorded: Vec<u32>,
+    /// How far each tenant is recorded.
+    pub(crate) recorded: Vec<RecordedReach>,
 }
 
 impl<D: Disk> JournalWriter<D> {
     ghost use Rattle.sb_durable.specs.EntryReaders.{IsStaged};
-    ghost use Rattle.sb_durable.specs.RecordedTrails.{BringsUp, StagesFront, StagesNoted, Takes};
+    ghost use Rattle.sb_durable.specs.RecordedTrails.{BringsUp, StagesNoted, StagesNothing, StagesSome, Takes};
 
     /// Records what the trails of these tenants have beyond the journal, and commits it. It may be called again after a
     /// lack of memory.
@@ -90,9 +92,16 @@ impl<D: Disk> JournalWriter<D> {
             self.journal.is_kept();
             return Err(JournalError::Spent);
         }
+        let Some(room) = self.journal.room().checked_sub(RENEWAL_SIZE) else {
+            self.journal.is_kept();
+            return Ok(false);
+        };
         let mut notes = EntryReader {
-            from: self.recorded[place] as usize,
-            room: self.journal.room(),
+            start: RecordingStart {
+                reach: self.recorded[place],
+                is_renewed: false,
+            },
+            room,
             list: Vec::new(self.alloc),
             reach: ReadReach::Nowhere,
         };
@@ -109,33 +118,49 @@ impl<D: Disk> JournalWriter<D> {
         ensures staged { StagesNoted D.Disk.seen D.Disk.may_leave self.old self.new tenant notes.now (is_ok result) }
     {
         match notes.reach {
-            ReadReach::Nowhere => Err(JournalError::Spent),
+            ReadReach::Nowhere => Err(JournalError::Unrecorded),
             ReadReach::NoMemory => Err(JournalError::Memory),
-            ReadReach::Part => self.stage(tenant, notes.list.as_slice(), false),
-            ReadReach::End => self.stage(tenant, notes.list.as_slice(), true),
+            ReadReach::Part => self.stage(tenant, notes.start, notes.list.as_slice(), false),
+            ReadReach::End => self.stage(tenant, notes.start, notes.list.as_slice(), true),
         }
     }
 
-    /// Stages these steps of a tenant. True if none is left.
+    /// Stages these steps of a tenant, behind the renewal if there is one. True if none is left.
     fn stage(
         &mut self,
         tenant: u32,
+        start: RecordingStart,
         notes: &[PendingEntry],
         is_all: bool,
     ) -> Result<bool, JournalError>
         requires { tenant < length self.old.recorded.items }
         ensures all { IfOk result (λ gives. gives ≡ is_all) }
-        ensures staged { StagesFront D.Disk.seen D.Disk.may_leave self.old self.new tenant notes.now (is_ok result) }
+        ensures staged { StagesSome D.Disk.seen D.Disk.may_leave self.old self.new tenant start notes.now (is_ok result) }
     {
-        let place = tenant as usize;
+        let mut reach = start.reach;
+        self.begin(tenant, start)?;
         for note in notes {
-            let Some(count) = self.recorded[place].checked_add(1) else {
+            let Some(entries) = reach.entries.checked_add(1) else {
                 return Err(JournalError::Full);
             };
             stage_one(&mut self.journal, tenant, note)?;
-            self.recorded[place] = count;
+            reach.entries = entries;
+            self.recorded[tenant as usize] = reach;
         }
         Ok(is_all)
+    }
+
+    /// Counts where recording goes on, and stages the renewal if there is one.
+    fn begin(&mut self, tenant: u32, start: RecordingStart) -> Result<(), JournalError>
+        requires { tenant < length self.old.recorded.items }
+        ensures counts { OnOk result (self.new.recorded.items ≡ slice_set self.old.recorded.items tenant start.reach) }
+        ensures has { OnOk result ((head : Head) (records waiting : List Entry) → Has D.Disk.seen D.Disk.may_leave self.old.journal head records waiting
+            → Has D.Disk.seen D.Disk.may_leave self.new.journal head records (waiting ++ renewals_of tenant start.is_renewed)) }
+        ensures err { OnErr result (StagesNothing D.Disk.seen D.Disk.may_leave self.old self.new) }
+    {
+        stage_renewal(&mut self.journal, tenant, start.is_renewed)?;
+        self.recorded[tenant as usize] = start.reach;
+        Ok(())
     }
 
     /// Commits what is staged.
@@ -147,6 +172,23 @@ impl<D: Disk> JournalWriter<D> {
             → Takes D.Disk.seen D.Disk.may_leave (IsSpent self.new.journal.log) self.old self.new head records waiting []) }
     {
         self.journal.commit()
+    }
+}
+
+/// Stages the renewal of a tenant, if there is one.
+fn stage_renewal<D: Disk>(
+    journal: &mut Journal<D>,
+    tenant: u32,
+    is_renewed: bool,
+) -> Result<(), JournalError>
+    ensures ok { OnOk result ((head : Head) (records waiting : List Entry) → Has D.Disk.seen D.Disk.may_leave journal.old head records waiting
+        → Has D.Disk.seen D.Disk.may_leave journal.new head records (waiting ++ renewals_of tenant is_renewed)) }
+    ensures err { OnErr result ((head : Head) (records waiting : List Entry) → Has D.Disk.seen D.Disk.may_leave journal.old head records waiting
+        → Has D.Disk.seen D.Disk.may_leave journal.new head records waiting) }
+{
+    match is_renewed {
+        true => journal.stage(renewal(tenant)),
+        false => Ok(()),
     }
 }
 

@@ -17,11 +17,18 @@ use crate::playing::{Playing, syncing_of};
 use crate::{Disk, Head, PlayError, PlayFault, Recording, open_path, restart, run_recorded};
 use sb_cell::{Cell, ample_buckets};
 use sb_wire::{Sink, Source, StreamError};
-use sb_words::{Log, Paths, Run, Syncs};
+use sb_words::{JournalWords, Log, Run, Syncs};
 use std::alloc::Global;
 use std::fs::File;
 use std::rt::{Clock, Files};
 use std::sync::Wait;
+
+/// A run on the tenants of a journal.
+#[derive(Clone, Copy)]
+pub struct JournaledRun<'p> {
+    pub run: Run,
+    pub journal: JournalWords<'p>,
+}
 
 /// Replays a journal, and answers the lines of the input on its tenants. Error: the journal can't be opened or played, a
 /// line couldn't be recorded, or a stream failed.
@@ -29,38 +36,31 @@ pub fn run_journaled<T: Wait + Clock + Files<File = File>, O: Log, R: Source, W:
     rt: &T,
     alloc: Global,
     log: &O,
-    asked: Run,
-    paths: Paths<'_>,
+    asked: JournaledRun<'_>,
     reader: &mut R,
     writer: &mut W,
 ) -> Result<(), JournalFault>
-    requires { AreRun asked }
+    requires { AreRun asked.run }
     ensures ok { OnOk result (WritesOf R.remaining W.contents reader.old writer.old writer.new
-        (AnswersJournaled asked.tenants asked.bound)) }
+        (AnswersJournaled asked.entry.run.tenants asked.entry.run.bound)) }
     ensures err { IfErr result (EndsJournaled R.fails R.remaining W.contents reader.old reader.new
-        writer.old writer.new asked.tenants asked.bound) }
+        writer.old writer.new asked.entry.run.tenants asked.entry.run.bound) }
 {
-    let Some(path) = paths.journal else {
-        return Err(JournalFault::CannotOpen);
-    };
+    let JournaledRun {
+        run,
+        journal: words,
+    } = asked;
+    let path = words.path;
     let head = Head {
-        tenants: asked.tenants,
-        bound: u64::from(asked.bound),
+        tenants: run.tenants,
+        bound: u64::from(run.bound),
     };
-    match open_path(rt, alloc, path, syncing_of(paths.syncs), head) {
+    match open_path(rt, alloc, path, syncing_of(words.syncs), head) {
         Ok(journal) => {
             let mut recording = Recording::new(journal);
             let mut playing = Playing::new(rt, log);
-            match run_on(
-                rt,
-                alloc,
-                asked,
-                &mut recording,
-                &mut playing,
-                reader,
-                writer,
-            ) {
-                Ok(ended) => match is_settled(rt, path, paths.syncs, log) {
+            match run_on(rt, alloc, run, &mut recording, &mut playing, reader, writer) {
+                Ok(ended) => match is_settled(rt, path, words.syncs, log) {
                     true => end_by(log, &recording, ended),
                     false => Err(JournalFault::Failed),
                 },

@@ -1,10 +1,10 @@
 //! A journal that is opened, and replayed on a host; how far it is replayed is logged.
-ghost use Rattle.std.specs.Prelude.{◌≡◌, ◌↔◌};
+ghost use Rattle.std.specs.Prelude.{◌≡◌, ◌↔◌, ◌≤◌};
 
 use crate::journal_fault::JournalFault;
 use crate::log_lines::{tell_no_journal, tell_played};
 use crate::{File, Head, Journal, Played, Progress, Recorder, Syncing, Wary, open_path, play};
-use sb_host::{Lending, Stub};
+use sb_host::{Renewing, Stub};
 use sb_words::{Log, Syncs};
 use std::alloc::Global;
 use std::fs;
@@ -25,9 +25,17 @@ pub(crate) fn syncing_of(syncs: Syncs) -> Syncing
     }
 }
 
+/// The bound of a journal's tenants. None has a higher one than 1,000, whatever a head says: where it does, no tenant is
+/// renewed.
+fn bound_of(head: Head) -> u32
+    ensures { result ≤ 1000 }
+{
+    head.bound.min(1000) as u32
+}
+
 /// Opens the journal at this path and replays it on a host. Error: CannotOpen, and the reason
 /// is logged.
-pub(crate) fn played_journal<H: Lending, T: Wait + Clock + Files<File = fs::File>, O: Log>(
+pub(crate) fn played_journal<H: Renewing, T: Wait + Clock + Files<File = fs::File>, O: Log>(
     rt: &T,
     alloc: Global,
     host: H,
@@ -44,7 +52,7 @@ pub(crate) fn played_journal<H: Lending, T: Wait + Clock + Files<File = fs::File
         }
     };
     let mut playing = Playing::new(rt, log);
-    match play(rt, alloc, host, &mut file, &mut playing) {
+    match play(rt, alloc, host, bound_of(head), &mut file, &mut playing) {
         Ok(played) => Ok((file, played)),
         Err(error) => {
             tell_no_journal(log, path, &error);
@@ -55,7 +63,7 @@ pub(crate) fn played_journal<H: Lending, T: Wait + Clock + Files<File = fs::File
 
 /// Opens the journal at this path and replays it on a host, whose tenants are recorded behind its records from then on.
 /// Gives the recorder, and the receipts of the sessions that were replayed. Error: CannotOpen, and the reason is logged.
-pub fn open_recorder<H: Lending, T: Wait + Clock + Files<File = fs::File>, O: Log>(
+pub fn open_recorder<H: Renewing, T: Wait + Clock + Files<File = fs::File>, O: Log>(
     rt: &T,
     alloc: Global,
     host: H,

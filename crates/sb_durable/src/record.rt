@@ -1,16 +1,42 @@
 //! Records as bytes, one behind the other.
-ghost use Rattle.std.specs.Prelude.{◌≡◌, ◌≤◌, ◌++◌, List, ℕ, length, IfOk, IfSome};
+ghost use Rattle.std.specs.Prelude.{◌≡◌, ◌↔◌, ◌≤◌, ◌++◌, List, ℕ, length, IfOk, IfSome, IsTrue};
 ghost use Rattle.std.specs.Int.{w32, to_be_bytes};
+ghost use Rattle.sb_durable.specs.Recording.{renewal_of};
 ghost use Rattle.sb_durable.specs.Records.{Entry, IsEntry, entry_bytes, entry_of, Takes};
 
+use sb_value::SESSION_LIMIT;
 use std::alloc::{AllocError, Global};
 
-/// A recorded line: tenant, session and text.
+/// The text of a renewal.
+const RENEW: &[u8] = b"renew";
+
+/// The bytes of a renewal.
+pub(crate) const RENEWAL_SIZE: usize = 14;
+
+/// A recorded line: tenant, session and text. A renewal of the tenant has the session 8, which no tenant has.
 #[derive(Clone, Copy, Debug)]
 pub struct Record<'a> {
     pub tenant: u32,
     pub session: u8,
     pub text: &'a [u8],
+}
+
+/// The renewal of a tenant.
+pub(crate) fn renewal(tenant: u32) -> Record<'static>
+    ensures { entry_of result ≡ renewal_of tenant }
+{
+    Record {
+        tenant,
+        session: SESSION_LIMIT as u8,
+        text: RENEW,
+    }
+}
+
+/// True if it is the renewal of its tenant.
+pub(crate) fn is_renewal(line: Record) -> bool
+    ensures { IsTrue result ↔ entry_of line.entry ≡ renewal_of line.entry.tenant }
+{
+    line.session as usize == SESSION_LIMIT && line.text == RENEW
 }
 
 pub(crate) fn record_bytes(alloc: Global, line: Record) -> Result<Vec<u8>, AllocError>

@@ -1,32 +1,43 @@
-//! Plays records: each is a call of a host.
-ghost use Rattle.std.specs.Prelude.{◌≡◌, ◌<◌, ◌*◌, ◌+◌, ◌++◌, ℕ, List, length, map, false, option_map, option_to_list, slice_get, slice_set, IfOk, None, OnOk, Some};
-ghost use Rattle.sb_durable.specs.Replays.{AreClosed, Becomes, Begins, IsClosed, MakesStep, PlaysLine, Stays, none_open, playing_of};
+//! Plays records: each is a call of a host, or the renewal of a tenant.
+ghost use Rattle.std.specs.Prelude.{◌≡◌, ◌<◌, ◌≤◌, ◌*◌, ◌+◌, ◌++◌, ℕ, List, [], length, map, flat_map, replicate, false, option_map, option_to_list, slice_get, slice_set, IfOk, IfSome, IsFalse, IsTrue, None, OnOk, Some};
+ghost use Rattle.sb_backup.specs.Renewals.{Renewed};
+ghost use Rattle.sb_durable.specs.Replays.{AreClosed, Becomes, Begins, IsClosed, MakesStep, PlaysLine, PlaysRenewal, Stays, changed, none_open, playing_of, receipts_in};
+ghost use Rattle.sb_durable.specs.Recording.{first_reach, renewed};
 ghost use Rattle.sb_durable.specs.Records.{entry_of};
 ghost use Rattle.sb_desk.specs.Calls.{Session as ItsSession, shown};
 ghost use Rattle.sb_desk.specs.Receipts.{newcomer};
 ghost use Rattle.sb_desk.specs.declared.stub.Stub.{Stub as ItsStub};
 ghost use Rattle.sb_tenant.specs.Trail.{is_no_memory};
 
-use crate::Record;
 use crate::entry_reader::ROLLBACK;
+use crate::record::is_renewal;
 use crate::replay::{PlayFault, Plays};
-use sb_desk::{CallError, Calling, Hosting, NoGate, Stub};
+use crate::{Record, RecordedReach};
+use sb_backup::{Unrenewed, renew_tenant};
+use sb_desk::{CallError, Calling, NoGate, Stub};
+use sb_host::Renewing;
 use sb_tenant::{Answer, OPEN, Reply};
 use sb_value::{Refusal, SESSION_LIMIT};
 use std::alloc::{AllocError, Global};
+use std::mem;
 use std::sync::Wait;
 
 /// The sessions that records have opened.
 #[derive(Drop)]
-pub(crate) struct Player<H: Hosting> {
+pub(crate) struct Player<H: Renewing> {
     alloc: Global,
     host: H,
+    /// The most rules that are considered at one assertion point.
+    bound: u32,
     /// Eight for each tenant.
     sessions: Vec<Option<H::Session>>,
-    stubs: Vec<Stub>,
-    /// The number of each tenant's newest step.
-    steps: Vec<u32>,
-    ghost eight: { length sessions.items ≡ 8 * length steps.items },
+    /// What the closed sessions of each tenant have left of its newest trail.
+    stubs: Vec<Vec<Stub>>,
+    /// How far each tenant is played.
+    reaches: Vec<RecordedReach>,
+    ghost few: { bound ≤ 1000 },
+    ghost eight: { length sessions.items ≡ 8 * length reaches.items },
+    ghost each: { length stubs.items ≡ length reaches.items },
 }
 
 /// A session after a call.
@@ -40,39 +51,41 @@ struct Called<S> {
     number: u32,
 }
 
-impl<H: Hosting> Player<H> {
-    pub(crate) fn new(alloc: Global, host: H) -> Result<Player<H>, AllocError>
-        ensures { IfOk result (λ player. playing_of H.Session.seen player.sessions.items player.stubs.items player.steps.items
+impl<H: Renewing> Player<H> {
+    pub(crate) fn new(alloc: Global, host: H, bound: u32) -> Result<Player<H>, AllocError>
+        requires { bound ≤ 1000 }
+        ensures { IfOk result (λ player. playing_of H.Session.seen player.sessions.items player.stubs.items player.reaches.items
             ≡ none_open (H.tenants host)) }
     {
         let tenants = host.tenants() as usize;
-        let mut steps = Vec::new(alloc);
-        steps.resize(tenants, 0)?;
         let mut sessions = Vec::new(alloc);
         for _place in 0..SESSION_LIMIT * tenants {
             sessions.push(None)?;
         }
+        let stubs = no_stubs(alloc, tenants)?;
+        let reaches = first_reaches(alloc, tenants)?;
         Ok(Player {
             alloc,
             host,
+            bound,
             sessions,
-            stubs: Vec::new(alloc),
-            steps,
+            stubs,
+            reaches,
         })
     }
 
-    /// Calls the session of a record with its line.
+    /// Calls the session of a record with its line, or renews its tenant.
     fn play_record<T: Wait>(&mut self, rt: &T, line: Record) -> Result<(), PlayFault>
         ensures { OnOk result (PlaysLine
-            (playing_of H.Session.seen self.old.sessions.items self.old.stubs.items self.old.steps.items) (entry_of line.entry)
-            (playing_of H.Session.seen self.new.sessions.items self.new.stubs.items self.new.steps.items)) }
+            (playing_of H.Session.seen self.old.sessions.items self.old.stubs.items self.old.reaches.items) (entry_of line.entry)
+            (playing_of H.Session.seen self.new.sessions.items self.new.stubs.items self.new.reaches.items)) }
     {
         let tenant = line.tenant as usize;
-        if tenant >= self.steps.len() {
+        if tenant >= self.reaches.len() {
             return Err(PlayFault::NoTenant);
         }
         if line.session as usize >= SESSION_LIMIT {
-            return Err(PlayFault::NoSession);
+            return self.renew(rt, line);
         }
         let place = SESSION_LIMIT * tenant + line.session as usize;
         match take_at(&mut self.sessions, place) {
@@ -84,13 +97,35 @@ impl<H: Hosting> Player<H> {
         }
     }
 
+    /// Renews the tenant of a record: no session of it may be open.
+    fn renew<T: Wait>(&mut self, rt: &T, line: Record) -> Result<(), PlayFault>
+        requires { line.tenant < length self.old.reaches.items }
+        ensures { OnOk result (PlaysRenewal
+            (playing_of H.Session.seen self.old.sessions.items self.old.stubs.items self.old.reaches.items) (entry_of line.entry)
+            (playing_of H.Session.seen self.new.sessions.items self.new.stubs.items self.new.reaches.items)) }
+    {
+        let tenant = line.tenant as usize;
+        if !is_renewal(line) {
+            return Err(PlayFault::NoSession);
+        }
+        if is_any_open(&self.sessions, tenant) {
+            return Err(PlayFault::NotClosed);
+        }
+        let stubs = &mut self.stubs[tenant];
+        let opening = renew_by(rt, self.alloc, self.host, line.tenant, self.bound, stubs)?;
+        match pass_opening(&mut self.reaches, tenant, opening) {
+            true => Ok(()),
+            false => Err(PlayFault::TrailFull),
+        }
+    }
+
     /// Opens a session: the line has to be `open`. An abort of a session that is not open does nothing.
     fn begin<T: Wait>(&mut self, rt: &T, line: Record, place: usize) -> Result<(), PlayFault>
-        requires within { (line.tenant < length self.old.steps.items) × (place < length self.old.sessions.items) }
+        requires within { (line.tenant < length self.old.reaches.items) × (place < length self.old.sessions.items) }
         requires place { place ≡ 8 * line.tenant + line.session }
         ensures { OnOk result (Begins
-            (playing_of H.Session.seen self.old.sessions.items self.old.stubs.items self.old.steps.items) (entry_of line.entry)
-            (playing_of H.Session.seen self.new.sessions.items self.new.stubs.items self.new.steps.items)) }
+            (playing_of H.Session.seen self.old.sessions.items self.old.stubs.items self.old.reaches.items) (entry_of line.entry)
+            (playing_of H.Session.seen self.new.sessions.items self.new.stubs.items self.new.reaches.items)) }
     {
         if line.text == ROLLBACK {
             return Ok(());
@@ -103,11 +138,11 @@ impl<H: Hosting> Player<H> {
 
     /// Opens the session of a record.
     fn open<T: Wait>(&mut self, rt: &T, line: Record, place: usize) -> Result<(), PlayFault>
-        requires within { (line.tenant < length self.old.steps.items) × (place < length self.old.sessions.items) }
+        requires within { (line.tenant < length self.old.reaches.items) × (place < length self.old.sessions.items) }
         requires place { place ≡ 8 * line.tenant + line.session }
         ensures { OnOk result ((number : ℕ) × Becomes
-            (playing_of H.Session.seen self.old.sessions.items self.old.stubs.items self.old.steps.items) (entry_of line.entry)
-            (playing_of H.Session.seen self.new.sessions.items self.new.stubs.items self.new.steps.items)
+            (playing_of H.Session.seen self.old.sessions.items self.old.stubs.items self.old.reaches.items) (entry_of line.entry)
+            (playing_of H.Session.seen self.new.sessions.items self.new.stubs.items self.new.reaches.items)
             (Some (shown (newcomer line.entry.tenant line.entry.session number))) number None) }
     {
         match self
@@ -115,7 +150,7 @@ impl<H: Hosting> Player<H> {
             .attach(rt, self.alloc, line.tenant, u32::from(line.session))
         {
             Ok(session) => {
-                self.steps[line.tenant as usize] = opened_by(&session);
+                count_step(&mut self.reaches, line.tenant as usize, opened_by(&session));
                 self.sessions[place] = Some(session);
                 Ok(())
             }
@@ -130,11 +165,11 @@ impl<H: Hosting> Player<H> {
         place: usize,
         called: Called<H::Session>,
     ) -> Result<(), PlayFault>
-        requires within { (line.tenant < length self.old.steps.items) × (place < length self.old.sessions.items) }
+        requires within { (line.tenant < length self.old.reaches.items) × (place < length self.old.sessions.items) }
         requires place { place ≡ 8 * line.tenant + line.session }
         ensures { OnOk result (Becomes
-            (playing_of H.Session.seen self.old.sessions.items self.old.stubs.items self.old.steps.items) (entry_of line.entry)
-            (playing_of H.Session.seen self.new.sessions.items self.new.stubs.items self.new.steps.items)
+            (playing_of H.Session.seen self.old.sessions.items self.old.stubs.items self.old.reaches.items) (entry_of line.entry)
+            (playing_of H.Session.seen self.new.sessions.items self.new.stubs.items self.new.reaches.items)
             (option_map H.Session.seen called.session) called.number called.stub) }
     {
         let Called {
@@ -142,43 +177,161 @@ impl<H: Hosting> Player<H> {
             stub,
             number,
         } = called;
-        self.steps[line.tenant as usize] = number;
+        count_step(&mut self.reaches, line.tenant as usize, number);
         self.sessions[place] = session;
-        match add(&mut self.stubs, stub) {
+        match add(&mut self.stubs[line.tenant as usize], stub) {
             Ok(()) => Ok(()),
             Err(_) => Err(PlayFault::NoMemory),
         }
     }
 
-    /// Ends the open sessions. Returns the receipts of all sessions, and each tenant's newest step before.
-    pub(crate) fn end_all<T: Wait>(self, rt: &T) -> Result<(Vec<Stub>, Vec<u32>), AllocError>
+    /// Ends the open sessions. Returns the receipts of all sessions, and how far each tenant was played before.
+    pub(crate) fn end_all<T: Wait>(
+        self,
+        rt: &T,
+    ) -> Result<(Vec<Stub>, Vec<RecordedReach>), AllocError>
         ensures { IfOk result (λ left. (closed : List ItsStub)
             × AreClosed (map (option_map H.Session.seen) self.sessions.items) closed
-            × (left.0.items ≡ self.stubs.items ++ closed) × (left.1.items ≡ self.steps.items)) }
+            × (left.0.items ≡ flat_map (λ own. own.items) self.stubs.items ++ closed) × (left.1.items ≡ self.reaches.items)) }
     {
         let Player {
+            alloc,
             sessions,
-            mut stubs,
-            steps,
+            stubs,
+            reaches,
             ..
         } = self;
+        let mut all = gather(alloc, stubs)?;
         for session in sessions {
-            add(&mut stubs, closed(rt, session))?;
+            add(&mut all, closed(rt, session))?;
         }
-        Ok((stubs, steps))
+        Ok((all, reaches))
     }
 }
 
-impl<H: Hosting> Plays for Player<H> {
+impl<H: Renewing> Plays for Player<H> {
     ghost use Rattle.sb_durable.specs.Replays.{PlaysLine, playing_of};
 
     ghost plays = { λ old r new. PlaysLine
-        (playing_of H.Session.seen old.sessions.items old.stubs.items old.steps.items) r
-        (playing_of H.Session.seen new.sessions.items new.stubs.items new.steps.items) };
+        (playing_of H.Session.seen old.sessions.items old.stubs.items old.reaches.items) r
+        (playing_of H.Session.seen new.sessions.items new.stubs.items new.reaches.items) };
 
     fn play<T: Wait>(&mut self, rt: &T, _alloc: Global, line: Record) -> Result<(), PlayFault> {
         self.play_record(rt, line)
     }
+}
+
+/// For each tenant no stubs.
+fn no_stubs(alloc: Global, tenants: usize) -> Result<Vec<Vec<Stub>>, AllocError>
+    ensures { IfOk result (λ lists. map (λ own. own.items) lists.items ≡ replicate tenants []) }
+{
+    let mut lists = Vec::new(alloc);
+    for _tenant in 0..tenants {
+        lists.push(Vec::new(alloc))?;
+    }
+    Ok(lists)
+}
+
+/// For each tenant the beginning.
+fn first_reaches(alloc: Global, tenants: usize) -> Result<Vec<RecordedReach>, AllocError>
+    ensures { IfOk result (λ reaches. reaches.items ≡ replicate tenants first_reach) }
+{
+    let mut reaches = Vec::new(alloc);
+    for _tenant in 0..tenants {
+        reaches.push(RecordedReach::first())?;
+    }
+    Ok(reaches)
+}
+
+/// Counts the newest step of a tenant.
+fn count_step(reaches: &mut Vec<RecordedReach>, tenant: usize, number: u32)
+    requires { tenant < length reaches.old.items }
+    ensures counted { reaches.new.items ≡ changed (λ reach. record { volume = reach.volume; entries = number }) tenant reaches.old.items }
+    ensures len { length reaches.new.items ≡ length reaches.old.items }
+{
+    let before = reaches[tenant];
+    reaches[tenant] = RecordedReach {
+        volume: before.volume,
+        entries: number,
+    };
+}
+
+/// Passes over the opening of a tenant's next volume, which has so many entries. False where a count has no room.
+fn pass_opening(reaches: &mut Vec<RecordedReach>, tenant: usize, opening: u64) -> bool
+    requires { tenant < length reaches.old.items }
+    ensures passed { IsTrue result → reaches.new.items ≡ changed (λ reach. renewed reach opening) tenant reaches.old.items }
+    ensures len { length reaches.new.items ≡ length reaches.old.items }
+{
+    match reaches[tenant].renewed(opening) {
+        Some(reach) => {
+            reaches[tenant] = reach;
+            true
+        }
+        None => false,
+    }
+}
+
+/// How many receipts these stubs have. None where a count has no room.
+fn count_receipts(stubs: &[Stub]) -> Option<u64>
+    ensures { IfSome result (λ count. count ≡ receipts_in stubs.now) }
+{
+    let mut count: u64 = 0;
+    for stub in stubs {
+        count = count.checked_add(stub.list().len() as u64)?;
+    }
+    Some(count)
+}
+
+/// True if a session of this tenant is open.
+fn is_any_open<S>(sessions: &[Option<S>], tenant: usize) -> bool
+    requires { 8 * tenant + 8 ≤ length sessions.now }
+    ensures { IsFalse result → (s : ℕ) → s < 8 → slice_get sessions.now (8 * tenant + s) ≡ Some None }
+{
+    for session in 0..SESSION_LIMIT {
+        if sessions[SESSION_LIMIT * tenant + session].is_some() {
+            return true;
+        }
+    }
+    false
+}
+
+/// Renews a tenant. What its opening left takes the place of what its sessions have left. Returns how many receipts that
+/// has. Error: why it isn't renewed, or TrailFull where the count has no room.
+fn renew_by<H: Renewing, T: Wait>(
+    rt: &T,
+    alloc: Global,
+    host: H,
+    tenant: u32,
+    bound: u32,
+    stubs: &mut Vec<Stub>,
+) -> Result<u64, PlayFault>
+    requires { bound ≤ 1000 }
+    ensures { IfOk result (λ count. Renewed tenant stubs.old.items stubs.new.items × (count ≡ receipts_in stubs.new.items)) }
+{
+    let left = mem::replace(stubs, Vec::new(alloc));
+    match renew_tenant(rt, alloc, host, tenant, bound, left) {
+        Ok(opening) => {
+            let count = count_receipts(&opening);
+            *stubs = opening;
+            count.ok_or(PlayFault::TrailFull)
+        }
+        Err(unrenewed) => {
+            let Unrenewed { why, stubs: back } = unrenewed;
+            *stubs = back;
+            Err(PlayFault::NotRenewed(why))
+        }
+    }
+}
+
+/// All receipts in one list.
+fn gather(alloc: Global, lists: Vec<Vec<Stub>>) -> Result<Vec<Stub>, AllocError>
+    ensures { IfOk result (λ stubs. stubs.items ≡ flat_map (λ own. own.items) lists.items) }
+{
+    let mut stubs = Vec::new(alloc);
+    for mut own in lists {
+        stubs.append(&mut own)?;
+    }
+    Ok(stubs)
 }
 
 /// Takes the session at this place, if it is open.

@@ -3,7 +3,7 @@ ghost use Rattle.std.specs.Prelude.{◌≡◌, IsTrue, OnOk};
 ghost use Rattle.sb_durable.specs.RecordedTrails.{AreKept, HasEach};
 
 use crate::journal_writer::JournalWriter;
-use crate::{Disk, Journal, JournalError};
+use crate::{Disk, Journal, JournalError, RecordedReach};
 use sb_host::Lending;
 use std::alloc::Global;
 use std::mem;
@@ -25,8 +25,13 @@ struct Callers {
 }
 
 impl<H: Lending, D: Disk> Recorder<H, D> {
-    /// A recorder of this host in this journal, which has so many entries of each tenant's trail.
-    pub fn new(alloc: Global, host: H, journal: Journal<D>, recorded: Vec<u32>) -> Recorder<H, D> {
+    /// A recorder of this host in this journal, which has each tenant so far.
+    pub fn new(
+        alloc: Global,
+        host: H,
+        journal: Journal<D>,
+        recorded: Vec<RecordedReach>,
+    ) -> Recorder<H, D> {
         Recorder {
             alloc,
             host,
@@ -41,8 +46,9 @@ impl<H: Lending, D: Disk> Recorder<H, D> {
         }
     }
 
-    /// Records all entries of these tenants' trails, and syncs the journal. After an error other than want of memory
-    /// each further call fails and writes nothing.
+    /// Records all entries of these tenants' trails, and syncs the journal. A tenant has to be recorded before it is
+    /// renewed (else: Unrecorded, and nothing of it is written from then on). After an error other than that and want of
+    /// memory each further call fails and writes nothing.
     pub fn keep<T: Wait>(&self, rt: &T, tenants: &[u32]) -> Result<(), JournalError>
         ensures { OnOk result (AreKept D.Disk tenants.now) }
     {

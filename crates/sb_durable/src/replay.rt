@@ -1,5 +1,5 @@
 //! A journal's records, played to what is new.
-ghost use Rattle.std.specs.Prelude.{◌≡◌, ◌+◌, List, [], length, IfOk, OnOk, IsTrue};
+ghost use Rattle.std.specs.Prelude.{◌≡◌, ◌+◌, ◌≤◌, List, [], length, IfOk, OnOk, IsTrue};
 ghost use Rattle.sb_durable.specs.Journal.{Has, disk_of};
 ghost use Rattle.sb_durable.specs.Records.{Entry, bytes_of, entry_of};
 ghost use Rattle.sb_durable.specs.declared.journal_header.Head.{Head};
@@ -7,10 +7,13 @@ ghost use Rattle.sb_durable.specs.Replays.{LeavesPlayed, PlaysAll};
 ghost use Rattle.sb_durable.specs.Restart.{AreRecords};
 
 use crate::record_player::Player;
-use crate::{Disk, Journal, JournalError, Record, first_record};
-use sb_desk::{AttachError, Hosting, Stub};
+use crate::{Disk, Journal, JournalError, Record, RecordedReach, first_record};
+use sb_backup::RenewalFault;
+use sb_desk::{AttachError, Stub};
+use sb_host::Renewing;
 use std::alloc::Global;
 use std::sync::Wait;
+use std::{fmt, str};
 use thiserror::Error;
 
 /// Receives the progress of a replay.
@@ -22,15 +25,15 @@ pub trait Progress {
 /// The result of a replay.
 #[derive(Drop)]
 pub struct Played {
-    /// The receipts of all sessions, which are closed.
+    /// The receipts of each tenant's newest trail: of its opening, and of all sessions, which are closed.
     pub stubs: Vec<Stub>,
     pub records: u64,
-    /// The number of recorded entries of each tenant's trail: all but the `end` of sessions that the replay closed.
-    pub recorded: Vec<u32>,
+    /// How far each tenant is recorded: all but the `end` of sessions that the replay closed.
+    pub recorded: Vec<RecordedReach>,
 }
 
 /// Why a record can't be replayed.
-#[derive(Clone, Copy, Debug, Error)]
+#[derive(Clone, Copy, Error)]
 pub enum PlayFault {
     #[error("{0}")]
     Journal(JournalError),
@@ -50,6 +53,22 @@ pub enum PlayFault {
     NoMemory,
     #[error("the tenant's trail is full")]
     TrailFull,
+    /// A renewal, while a session of its tenant is open.
+    #[error("a session of the tenant is open")]
+    NotClosed,
+    #[error("the tenant isn't renewed: {}", reason_of(.0))]
+    NotRenewed(RenewalFault),
+}
+
+impl fmt::Debug for PlayFault {
+    fn fmt<W: fmt::Write>(&self, f: &mut fmt::Formatter<W>) -> fmt::Result {
+        fmt::Display::fmt(self, f)
+    }
+}
+
+/// The reason as a part of a sentence.
+fn reason_of(why: &RenewalFault) -> &'static str {
+    str::from_utf8(why.reason()).unwrap_or("its reason is no text")
 }
 
 /// Why a journal can't be replayed, and the number of the record, from 1.
@@ -60,22 +79,24 @@ pub struct PlayError {
     pub why: PlayFault,
 }
 
-/// Replays the records of a journal on a new host, and ends the sessions that are open then. Error: why a record can't
-/// be read or played.
-pub fn play<T: Wait, H: Hosting, D: Disk, P: Progress>(
+/// Replays the records of a journal on a new host with this bound, and ends the sessions that are open then. Error: why a
+/// record can't be read or played.
+pub fn play<T: Wait, H: Renewing, D: Disk, P: Progress>(
     rt: &T,
     alloc: Global,
     host: H,
+    bound: u32,
     journal: &mut Journal<D>,
     progress: &mut P,
 ) -> Result<Played, PlayError>
+    requires { bound ≤ 1000 }
     ensures plays { IfOk result (λ left. (played : List Entry)
         × LeavesPlayed (H.tenants host) played left.stubs.items left.recorded.items × (left.records ≡ length played)
         × (IsTrue (D.Disk.is_clean (disk_of journal.new)) → (head : Head) (records : List Entry)
         → Has D.Disk.seen D.Disk.may_leave journal.old head records [] → AreRecords records
         → (played ≡ records) × Has D.Disk.seen D.Disk.may_leave journal.new head records [])) }
 {
-    let Ok(mut player) = Player::new(alloc, host) else {
+    let Ok(mut player) = Player::new(alloc, host, bound) else {
         return Err(PlayError {
             record: 1,
             why: PlayFault::NoMemory,

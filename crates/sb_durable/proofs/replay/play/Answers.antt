@@ -1,3 +1,4 @@
+use Rattle.std.proofs.Common.{refl}
 use Rattle.sb_durable.specs.Replays.{playing_of}
 use Rattle.sb_durable.proofs.Calls.{leaves_played, plays_seen}
 use Rattle.sb_durable.proofs.replay.play.Goals as goal
@@ -12,8 +13,8 @@ returns-in-Ok-end_all g c =
     record {
       plays = (
         p.0,
-        leaves_played (g.H.Hosting.tenants c.args.host) (playing_of seen first.sessions.items first.stubs.items first.steps.items) (playing_of seen last.sessions.items last.stubs.items last.steps.items) p.0 e.0 _ _ c.in-Ok.ensures
-            (plays_seen first last (λ p. playing_of seen p.sessions.items p.stubs.items p.steps.items) p.0 p.1) e.1 e.2 e.3,
+        leaves_played (g.H.Hosting.tenants c.args.host) (playing_of seen first.sessions.items first.stubs.items first.reaches.items) (playing_of seen last.sessions.items last.stubs.items last.reaches.items) p.0 e.0 _ last.stubs.items _ c.in-Ok.ensures
+            (plays_seen first last (λ p. playing_of seen p.sessions.items p.stubs.items p.reaches.items) p.0 p.1) e.1 refl e.2 e.3,
         p.2,
         p.3,
       );

@@ -1,5 +1,5 @@
 use Rattle.std.proofs.Common.{◌++◌, ◌∷◌, ◌∙◌, [], List, map, option_map, sym, ap, subst, append_assoc}
-use Rattle.std.specs.Prelude.{option_to_list, Option}
+use Rattle.std.specs.Prelude.{flat_map, option_to_list, Option}
 use Rattle.std.specs.Vec.Iter.{into_iter_items}
 use Rattle.std.proofs.lemmas.List.{map-append}
 use Rattle.sb_desk.specs.Calls.{Session}
@@ -17,6 +17,6 @@ loop-session-preserved g c =
     let left = option_to_list c.closed.result in (
       i.0 ++ left,
       subst (λ (l : List (Option Session)). AreClosed l (i.0 ++ left)) (sym (map-append shows before (own ∷ []))) (closed_more (map shows before) i.0 (shows own) c.closed.result i.1 c.closed.ensures),
-      c.in_ok-add.ensures ∙ ap (λ (l : List Stub). l ++ left) i.2 ∙ append_assoc c.args.self.stubs.items i.0 left,
+      c.in_ok-add.ensures ∙ ap (λ (l : List Stub). l ++ left) i.2 ∙ append_assoc (flat_map (λ own. own.items) c.args.self.stubs.items) i.0 left,
       i.3 ∙ ap (λ l. before ++ l) c.in-Some.ensures.steps.0 ∙ sym (append_assoc before (own ∷ []) (into_iter_items c.next.new.self)),
     )

@@ -1,0 +1,72 @@
+//! How far the volumes of a tenant's life are recorded.
+ghost use Rattle.std.specs.Prelude.{◌≡◌, IfSome};
+ghost use Rattle.sb_durable.specs.Recording.{GoesOn, first_reach, renewed};
+
+use sb_tenant::Volume;
+
+/// How far a tenant is recorded: all volumes before this one, and the first entries of this one.
+#[derive(Clone, Copy, Debug)]
+pub struct RecordedReach {
+    pub volume: Volume,
+    /// With those of its opening, which are no records.
+    pub entries: u32,
+}
+
+impl RecordedReach {
+    /// Before a tenant's first step.
+    pub(crate) fn first() -> RecordedReach
+        ensures { result ≡ first_reach }
+    {
+        RecordedReach {
+            volume: Volume {
+                number: 0,
+                before: 0,
+                opening: 0,
+            },
+            entries: 0,
+        }
+    }
+
+    /// Behind the opening of the next volume, where this one ends here. None where a count has no room.
+    pub(crate) fn renewed(self, opening: u64) -> Option<RecordedReach>
+        ensures { IfSome result (λ next. next ≡ renewed self opening) }
+    {
+        let entries = u32::try_from(opening).ok()?;
+        let made = u64::from(self.entries).saturating_sub(self.volume.opening);
+        let volume = Volume {
+            number: self.volume.number.checked_add(1)?,
+            before: self.volume.before.checked_add(made)?,
+            opening,
+        };
+        Some(RecordedReach { volume, entries })
+    }
+}
+
+/// Where recording goes on.
+#[derive(Clone, Copy, Debug)]
+pub(crate) struct RecordingStart {
+    pub(crate) reach: RecordedReach,
+    /// A renewal is recorded first.
+    pub(crate) is_renewed: bool,
+}
+
+/// Where the recording of a tenant goes on in this volume of its life. None if it isn't the next one of a volume that ends
+/// where it is recorded: then it was renewed before all of its steps were recorded.
+pub(crate) fn start_in(recorded: RecordedReach, volume: Volume) -> Option<RecordingStart>
+    ensures { IfSome result (λ start. GoesOn recorded start.reach start.is_renewed × (start.reach.volume ≡ volume)) }
+{
+    if volume == recorded.volume {
+        return Some(RecordingStart {
+            reach: recorded,
+            is_renewed: false,
+        });
+    }
+    let reach = recorded.renewed(volume.opening)?;
+    if reach.volume != volume {
+        return None;
+    }
+    Some(RecordingStart {
+        reach,
+        is_renewed: true,
+    })
+}
