@@ -1,2 +1,3 @@
 mod Shown
+mod Held
 pub mod Sending

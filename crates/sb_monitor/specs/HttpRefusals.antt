@@ -45,7 +45,7 @@ words_of NoScript = codes "no script\n"
 abbrev pub unless_got : Request → Option HttpRefusal
 unless_got r = if bytes_eq r.method.now (codes "GET") || bytes_eq r.method.now (codes "HEAD") then None else Some NotGot
 
--- an end is posted
+-- an end and a renewal are posted
 abbrev pub unless_posted : Request → Option HttpRefusal
 unless_posted r = if bytes_eq r.method.now (codes "POST") then None else Some NotPosted
 
@@ -54,4 +54,5 @@ abbrev pub misfit_of : Target → Request → Option HttpRefusal
 misfit_of target.Stop r = unless_posted r
 misfit_of target.Ready r = unless_got r
 misfit_of (target.Page (route.End e)) r = unless_posted r
+misfit_of (target.Page (route.Renew n)) r = unless_posted r
 misfit_of (target.Page page) r = unless_got r

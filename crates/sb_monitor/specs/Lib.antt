@@ -5,3 +5,6 @@ pub mod Targets
 pub mod HttpRefusals
 pub mod Pages
 pub mod PageAnswers
+pub mod RenewalBoards
+pub mod Rooms
+pub mod TenantRenewals

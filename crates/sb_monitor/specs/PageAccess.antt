@@ -4,13 +4,14 @@ use Rattle.sb_keys.specs.Text.{status_holder}
 use Rattle.sb_status.specs.Requests.{AreSent}
 use Rattle.sb_status.specs.Routes.{IsNumber}
 use Rattle.sb_status.specs.declared.route.Route.{Route}
-use Rattle.sb_status.specs.declared.route.Route.TheVariants.{Host, Metrics, Tenant, Dump, End, Unknown}
+use Rattle.sb_status.specs.declared.route.Route.TheVariants.{Host, Metrics, Tenant, Dump, End, Renew, Unknown}
 
 -- a tenant's pages are its own, and all others are of whom the keys call status
 abbrev pub holder_of : Route → ℕ
 holder_of (Tenant n) = n
 holder_of (Dump n) = n
 holder_of (End e) = e.tenant
+holder_of (Renew n) = n
 holder_of Host = status_holder
 holder_of Metrics = status_holder
 holder_of Unknown = status_holder
@@ -20,6 +21,7 @@ abbrev pub IsUser : Route → List ℕ → Type 0
 IsUser (Tenant n) name = IsNumber name n
 IsUser (Dump n) name = IsNumber name n
 IsUser (End e) name = IsNumber name e.tenant
+IsUser (Renew n) name = IsNumber name n
 IsUser Host name = name ≡ codes "status"
 IsUser Metrics name = name ≡ codes "status"
 IsUser Unknown name = name ≡ codes "status"

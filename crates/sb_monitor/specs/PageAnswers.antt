@@ -43,12 +43,12 @@ abbrev pub IsTurnedAway : Bool → Request → Target → HttpRefusal → Type 0
 IsTurnedAway wants r target why =
     (misfit_of target r ≡ Some why) ⊎ ((misfit_of target r ≡ None) × (wants_key wants target ≡ true) × (why ≡ KeyWanted))
 
-module _ (wants : Bool) (admits : ℕ → List ℕ → Type 0) (first tenants cells bound : ℕ) (told : ℕ → SessionName → Type 0) (stopped : Type 0) (lets_in : Bool → Type 0) where
+module _ (wants : Bool) (admits : ℕ → List ℕ → Type 0) (first tenants cells bound : ℕ) (told : ℕ → SessionName → Type 0) (asked : ℕ → ℕ → Type 0) (stopped : Type 0) (lets_in : Bool → Type 0) where
   -- a request that fits, and has the key of whom its target belongs to, is replied to
   abbrev pub IsLetIn : Request → Target → Outcome → Type 0
   IsLetIn r target outcome =
       (misfit_of target r ≡ None) × IsGuarded (wants_key wants target) admits (page_of target) (option_copied r.authorization)
-      × Replies first tenants cells bound told stopped lets_in target outcome
+      × Replies first tenants cells bound told asked stopped lets_in target outcome
 
   abbrev pub ComesTo : Request → Target → Outcome → Type 0
   ComesTo r target (Shown s) = IsLetIn r target (Shown s)

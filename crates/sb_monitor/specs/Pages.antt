@@ -42,6 +42,10 @@ IsScriptAt first bound n body = (own : Tenant) × (first + own.id ≡ n) × IsSc
 abbrev pub IsEnding : ℕ → ℕ → (ℕ → SessionName → Type 0) → Ended → Type 0
 IsEnding first cells told e = (place : ℕ) × (first + place ≡ e.tenant) × told (place % cells) (record { tenant = e.tenant; session = e.session })
 
+-- the worker of a tenant's cell was told that the tenant of this number is to be renewed
+abbrev pub IsRenewing : ℕ → ℕ → (ℕ → ℕ → Type 0) → ℕ → Type 0
+IsRenewing first cells asked n = (place : ℕ) × (first + place ≡ n) × asked (place % cells) place
+
 -- ---- why nothing is shown
 
 -- a tenant has no such session, or it wasn't open
@@ -79,6 +83,12 @@ IsEndOutcome first tenants cells told e =
     IsOutcome status.Accepted kind.Text (λ body. (body ≡ codes "told\n") × IsEnding first cells told e)
     (IsUnshown first tenants e.tenant (λ why. ((why ≡ NoSession) × IsNoSession first e.tenant e.session) ⊎ (why ≡ WorkerBusy)))
 
+-- the renewal of a tenant
+abbrev pub IsRenewalOutcome : ℕ → ℕ → ℕ → (ℕ → ℕ → Type 0) → ℕ → Outcome → Type 0
+IsRenewalOutcome first tenants cells asked n =
+    IsOutcome status.Accepted kind.Text (λ body. (body ≡ codes "told\n") × IsRenewing first cells asked n)
+    (IsUnshown first tenants n (λ why. why ≡ WorkerBusy))
+
 -- a page of the host itself
 abbrev pub IsHostOutcome : Outcome → Type 0
 IsHostOutcome = IsOutcome status.Found kind.Page (IsPage Html) (λ _. ⊥)
@@ -88,13 +98,14 @@ abbrev pub AreSamples : Outcome → Type 0
 AreSamples = IsOutcome status.Found kind.Samples (IsPage Label) (λ _. ⊥)
 
 -- each route has its own
-abbrev pub Shows : ℕ → ℕ → ℕ → ℕ → (ℕ → SessionName → Type 0) → Route → Outcome → Type 0
-Shows first tenants cells bound told route.Host outcome = IsHostOutcome outcome
-Shows first tenants cells bound told route.Metrics outcome = AreSamples outcome
-Shows first tenants cells bound told (route.Tenant n) outcome = IsPageOutcome first tenants n outcome
-Shows first tenants cells bound told (route.Dump n) outcome = IsScriptOutcome first tenants bound n outcome
-Shows first tenants cells bound told (route.End e) outcome = IsEndOutcome first tenants cells told e outcome
-Shows first tenants cells bound told route.Unknown outcome = outcome ≡ Refused NoPage
+abbrev pub Shows : ℕ → ℕ → ℕ → ℕ → (ℕ → SessionName → Type 0) → (ℕ → ℕ → Type 0) → Route → Outcome → Type 0
+Shows first tenants cells bound told asked route.Host outcome = IsHostOutcome outcome
+Shows first tenants cells bound told asked route.Metrics outcome = AreSamples outcome
+Shows first tenants cells bound told asked (route.Tenant n) outcome = IsPageOutcome first tenants n outcome
+Shows first tenants cells bound told asked (route.Dump n) outcome = IsScriptOutcome first tenants bound n outcome
+Shows first tenants cells bound told asked (route.End e) outcome = IsEndOutcome first tenants cells told e outcome
+Shows first tenants cells bound told asked (route.Renew n) outcome = IsRenewalOutcome first tenants cells asked n outcome
+Shows first tenants cells bound told asked route.Unknown outcome = outcome ≡ Refused NoPage
 
 -- the server was told to stop, or it can't be told
 abbrev pub IsStopOutcome : Type 0 → Outcome → Type 0
@@ -109,8 +120,8 @@ abbrev pub IsInTime : (Bool → Type 0) → (Outcome → Type 0) → Outcome →
 IsInTime lets_in replied outcome = (lets_in true × replied outcome) ⊎ (lets_in false × (outcome ≡ NotReady))
 
 -- pages wait until clients are let in; a stop is told at any time
-abbrev pub Replies : ℕ → ℕ → ℕ → ℕ → (ℕ → SessionName → Type 0) → Type 0 → (Bool → Type 0) → Target → Outcome → Type 0
-Replies first tenants cells bound told stopped lets_in target.Stop outcome = IsStopOutcome stopped outcome
-Replies first tenants cells bound told stopped lets_in target.Ready outcome = IsInTime lets_in IsReadyOutcome outcome
-Replies first tenants cells bound told stopped lets_in (target.Page route) outcome =
-    IsInTime lets_in (Shows first tenants cells bound told route) outcome
+abbrev pub Replies : ℕ → ℕ → ℕ → ℕ → (ℕ → SessionName → Type 0) → (ℕ → ℕ → Type 0) → Type 0 → (Bool → Type 0) → Target → Outcome → Type 0
+Replies first tenants cells bound told asked stopped lets_in target.Stop outcome = IsStopOutcome stopped outcome
+Replies first tenants cells bound told asked stopped lets_in target.Ready outcome = IsInTime lets_in IsReadyOutcome outcome
+Replies first tenants cells bound told asked stopped lets_in (target.Page route) outcome =
+    IsInTime lets_in (Shows first tenants cells bound told asked route) outcome

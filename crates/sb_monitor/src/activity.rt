@@ -3,10 +3,11 @@ ghost use Rattle.std.specs.Prelude.{IfOk};
 ghost use Rattle.sb_status.specs.Pages.{IsPage};
 ghost use Rattle.sb_status.specs.declared.text.Escaping.TheVariants as escaping;
 
+use crate::renewal_board::RenewalBoard;
 use sb_server::{Cause, Count, LIMITS, ServerMetrics, SlowLine};
 use sb_status::{
-    Activity, Bucket, Histogram, HostNumbers, HostView, Refused, Rollbacks, SlowView,
-    TenantNumbers, WorkerNumbers, host_page, metrics,
+    Activity, Bucket, Histogram, HostNumbers, HostView, Refused, RenewalNumbers, Rollbacks,
+    SlowView, TenantNumbers, WorkerNumbers, host_page, metrics,
 };
 use std::alloc::{AllocError, Global};
 use std::sync::Wait;
@@ -21,6 +22,7 @@ pub(crate) struct Counted {
     considerations: u64,
     rollbacks: Rollbacks,
     refusals: Vec<Refused>,
+    renewals: RenewalNumbers,
     buckets: Vec<Bucket>,
     others: u64,
     micros: u64,
@@ -66,12 +68,17 @@ impl Counted {
         rt: &T,
         alloc: Global,
         server_metrics: &ServerMetrics,
+        renewal_board: &RenewalBoard,
     ) -> Result<Counted, AllocError> {
         let mut counted = Counted {
             workers: Vec::new(alloc),
             considerations: server_metrics.count(Count::Considerations),
             rollbacks: rollbacks_of(server_metrics),
             refusals: Vec::new(alloc),
+            renewals: RenewalNumbers {
+                done: renewal_board.done(),
+                failed: renewal_board.failed(),
+            },
             buckets: Vec::new(alloc),
             others: server_metrics.count(Count::Step(LIMITS.len())),
             micros: server_metrics.count(Count::Steps) / MICROSECOND,
@@ -111,6 +118,7 @@ impl Counted {
             considerations: self.considerations,
             rollbacks: self.rollbacks,
             refusals: self.refusals.as_slice(),
+            renewals: self.renewals,
             times: Histogram {
                 buckets: self.buckets.as_slice(),
                 others: self.others,

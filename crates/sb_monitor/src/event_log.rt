@@ -45,6 +45,11 @@ impl<'r, T: Eprint + Clock> EventLog<'r, T> {
         }
     }
 
+    /// The system.
+    pub(crate) fn rt(&self) -> &'r T {
+        self.rt
+    }
+
     /// True if no slow line was logged in this second yet.
     fn may_tell_slow(&self) -> bool {
         let second = match (self.began, Instant::now(self.rt)) {

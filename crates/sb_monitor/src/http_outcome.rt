@@ -52,12 +52,15 @@ pub(crate) const NOT_READY: &str =
 Retry-After: 1\r\nConnection: close\r\nCache-Control: no-store\r\n\r\n";
 
 impl HttpRefusal {
-    /// Why a request does not fit its target. The ends of a session and of the server are posted, all else is got.
+    /// Why a request does not fit its target. The ends of a session and of the server and a renewal are posted, all else
+    /// is got.
     pub(crate) fn of_misfit(target: Target, request: &Request<'_>) -> Option<HttpRefusal>
         ensures { result ≡ misfit_of target request.now }
     {
         match target {
-            Target::Stop | Target::Page(Route::End(_)) => HttpRefusal::unless_posted(request),
+            Target::Stop | Target::Page(Route::End(_) | Route::Renew(_)) => {
+                HttpRefusal::unless_posted(request)
+            }
             Target::Ready | Target::Page(_) => HttpRefusal::unless_got(request),
         }
     }

@@ -1,4 +1,5 @@
-//! What an operator sees of a server: its log, its first line, and the pages of its status port.
+//! What an operator sees of a server: its log, its first line, and the pages of its status port. And what is done for its
+//! tenants behind their backs: their trails are renewed.
 #![tactic(auto)]
 
 mod activity;
@@ -11,19 +12,25 @@ mod listener;
 mod memory;
 mod page_access;
 mod pages;
+mod renewal_board;
+mod renewal_notes;
+mod room_reading;
 mod sender;
 mod server_control;
 mod status_port;
 mod stop_switch;
 mod supervisor;
 mod target;
+mod tenant_renewals;
 mod tenant_script;
 
 pub use event_log::EventLog;
 pub use listener::{ListenError, is_closed, listen};
 pub use memory::memory_file;
 pub use pages::Pages;
+pub use renewal_board::RenewalBoard;
 pub use server_control::{ServerControl, ServerControls};
 pub use status_port::{SideTask, StatusPort, serve_beside, work_beside};
 pub use stop_switch::StopSwitch;
 pub use supervisor::Supervisor;
+pub use tenant_renewals::{RenewalLimits, TenantRenewals};

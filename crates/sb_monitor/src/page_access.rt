@@ -77,12 +77,9 @@ fn admits<A: Admission, T: Wait>(
     ensures { IsTrue result → OpensBy (A.admits admission.now) route credentials.now.text.items credentials.now.colon }
 {
     match route {
-        Route::Tenant(tenant) | Route::Dump(tenant) => admits_to(
-            rt,
-            admission,
-            tenant,
-            credentials,
-        ),
+        Route::Tenant(tenant) | Route::Dump(tenant) | Route::Renew(tenant) => {
+            admits_to(rt, admission, tenant, credentials)
+        }
         Route::End(ended) => admits_to(rt, admission, ended.tenant, credentials),
         _ => {
             credentials.user() == b"status".as_slice()

@@ -1,16 +1,19 @@
 //! What the status port answers.
-ghost use Rattle.std.specs.Prelude.{◌≡◌, ◌⊎◌, ◌+◌, ◌<◌, ◌≤◌, IfOk, MatchOption, ℕ, false, true};
+ghost use Rattle.std.specs.Prelude.{◌≡◌, ◌⊎◌, ◌+◌, ◌%◌, ◌<◌, ◌≤◌, IfOk, MatchOption, ℕ, false, true};
 ghost use Rattle.sb_monitor.specs.Senders.{stranger_of};
 ghost use Rattle.sb_status.specs.StatisticsCache.{IsCacheOf};
 ghost use Rattle.sb_status.specs.TenantPages.{IsPageOf};
 ghost use Rattle.sb_status.specs.TenantViews.{IsFoundView, OnlyAges};
+ghost use Rattle.sb_status.specs.TenantCounts.{AreNumbersOf};
+ghost use Rattle.sb_tenant.specs.Tenant.{Tenant as ItsTenant};
 ghost use Rattle.sb_monitor.specs.PageAnswers.{Answers, ComesFrom, ComesTo, outcome_text};
-ghost use Rattle.sb_monitor.specs.Pages.{AreSamples, IsEndOutcome, IsHostOutcome, IsInTime, IsPageOutcome, IsReadyOutcome, IsScriptOutcome, IsStopOutcome, LacksSession, Replies, Shows};
+ghost use Rattle.sb_monitor.specs.Pages.{AreSamples, IsEndOutcome, IsHostOutcome, IsInTime, IsPageOutcome, IsReadyOutcome, IsRenewalOutcome, IsScriptOutcome, IsStopOutcome, LacksSession, Replies, Shows};
 
 use crate::activity::{Counted, Overview};
 use crate::http_outcome::{HttpRefusal, Outcome, Shown, has_body};
 use crate::memory::resident;
 use crate::page_access::is_let_in;
+use crate::renewal_board::RenewalBoard;
 use crate::sender::Sender;
 use crate::server_control::{ServerControl, ServerControls};
 use crate::target::{Target, target_of};
@@ -51,6 +54,8 @@ pub struct Pages<'k, H, A, T, E = ServerControls> {
     pub memory: Option<File>,
     /// What the workers have counted.
     pub server_metrics: &'k ServerMetrics,
+    /// When its tenants were renewed.
+    pub renewal_board: &'k RenewalBoard,
     /// What tells them that sessions are to end, and the server that it is to stop.
     pub control: &'k E,
     ghost few: { bound ≤ 1000 },
@@ -72,7 +77,7 @@ impl<'k, H: Lending, A: Admission, T: Wait + Clock, E: ServerControl> Pages<'k, 
     ) -> Result<Vec<u8>, AllocError>
         requires { IsCacheOf self.now.first_tenant cache.old }
         ensures answers { IfOk result (λ answer. Answers (A.wants self.now.admission.now) (A.admits self.now.admission.now)
-            self.now.first_tenant (H.tenants self.now.host) H.cells self.now.bound (E.told self.now.control.now)
+            self.now.first_tenant (H.tenants self.now.host) H.cells self.now.bound (E.told self.now.control.now) (E.asked self.now.control.now)
             (E.stopped self.now.control.now) (E.lets_in self.now.control.now) bytes.now answer.items) }
         ensures cache { IsCacheOf self.now.first_tenant cache.new }
     {
@@ -98,7 +103,7 @@ impl<'k, H: Lending, A: Admission, T: Wait + Clock, E: ServerControl> Pages<'k, 
     ) -> Result<Outcome, AllocError>
         requires { IsCacheOf self.now.first_tenant cache.old }
         ensures comes { IfOk result (ComesFrom (A.wants self.now.admission.now) (A.admits self.now.admission.now)
-            self.now.first_tenant (H.tenants self.now.host) H.cells self.now.bound (E.told self.now.control.now)
+            self.now.first_tenant (H.tenants self.now.host) H.cells self.now.bound (E.told self.now.control.now) (E.asked self.now.control.now)
             (E.stopped self.now.control.now) (E.lets_in self.now.control.now) (stranger_of sender.now) request.now) }
         ensures cache { IsCacheOf self.now.first_tenant cache.new }
     {
@@ -117,7 +122,7 @@ impl<'k, H: Lending, A: Admission, T: Wait + Clock, E: ServerControl> Pages<'k, 
     ) -> Result<Outcome, AllocError>
         requires { IsCacheOf self.now.first_tenant cache.old }
         ensures comes { IfOk result (ComesTo (A.wants self.now.admission.now) (A.admits self.now.admission.now)
-            self.now.first_tenant (H.tenants self.now.host) H.cells self.now.bound (E.told self.now.control.now)
+            self.now.first_tenant (H.tenants self.now.host) H.cells self.now.bound (E.told self.now.control.now) (E.asked self.now.control.now)
             (E.stopped self.now.control.now) (E.lets_in self.now.control.now) request.now target) }
         ensures cache { IsCacheOf self.now.first_tenant cache.new }
     {
@@ -134,7 +139,7 @@ impl<'k, H: Lending, A: Admission, T: Wait + Clock, E: ServerControl> Pages<'k, 
     fn reply(&self, target: Target, cache: &mut StatisticsCache) -> Result<Outcome, AllocError>
         requires { IsCacheOf self.now.first_tenant cache.old }
         ensures replies { IfOk result (Replies self.now.first_tenant (H.tenants self.now.host) H.cells self.now.bound
-            (E.told self.now.control.now) (E.stopped self.now.control.now) (E.lets_in self.now.control.now) target) }
+            (E.told self.now.control.now) (E.asked self.now.control.now) (E.stopped self.now.control.now) (E.lets_in self.now.control.now) target) }
         ensures cache { IsCacheOf self.now.first_tenant cache.new }
     {
         match target {
@@ -169,7 +174,7 @@ impl<'k, H: Lending, A: Admission, T: Wait + Clock, E: ServerControl> Pages<'k, 
         requires { IsCacheOf self.now.first_tenant cache.old }
         ensures shows { IfOk result (IsInTime (E.lets_in self.now.control.now)
             (Shows self.now.first_tenant (H.tenants self.now.host) H.cells self.now.bound
-            (E.told self.now.control.now) route)) }
+            (E.told self.now.control.now) (E.asked self.now.control.now) route)) }
         ensures cache { IsCacheOf self.now.first_tenant cache.new }
     {
         if !self.control.is_ready() {
@@ -182,7 +187,7 @@ impl<'k, H: Lending, A: Admission, T: Wait + Clock, E: ServerControl> Pages<'k, 
     fn page(&self, route: Route, cache: &mut StatisticsCache) -> Result<Outcome, AllocError>
         requires { IsCacheOf self.now.first_tenant cache.old }
         ensures shows { IfOk result (Shows self.now.first_tenant (H.tenants self.now.host) H.cells self.now.bound
-            (E.told self.now.control.now) route) }
+            (E.told self.now.control.now) (E.asked self.now.control.now) route) }
         ensures cache { IsCacheOf self.now.first_tenant cache.new }
     {
         match route {
@@ -191,6 +196,7 @@ impl<'k, H: Lending, A: Admission, T: Wait + Clock, E: ServerControl> Pages<'k, 
             Route::Tenant(tenant) => self.tenant_page(tenant, cache),
             Route::Dump(tenant) => self.script(tenant),
             Route::End(ended) => self.end(ended),
+            Route::Renew(tenant) => self.renew(tenant),
             Route::Unknown => Ok(Outcome::Refused(HttpRefusal::NoPage)),
         }
     }
@@ -218,7 +224,7 @@ impl<'k, H: Lending, A: Admission, T: Wait + Clock, E: ServerControl> Pages<'k, 
         Ok(Overview {
             tenants: self.all_numbers(cache)?,
             host: self.host_numbers(),
-            counted: Counted::read(self.rt, self.alloc, self.server_metrics)?,
+            counted: Counted::read(self.rt, self.alloc, self.server_metrics, self.renewal_board)?,
         })
     }
 
@@ -252,7 +258,8 @@ impl<'k, H: Lending, A: Admission, T: Wait + Clock, E: ServerControl> Pages<'k, 
         if let Tried::Held = patience.read(self.host, place, &mut counting) {
             return cache.numbers(place, now);
         }
-        let numbers = counting.numbers?;
+        let mut numbers = counting.numbers?;
+        self.tell_volume_age(place, &mut numbers);
         cache.keep(place, numbers, now);
         Some(numbers)
     }
@@ -285,6 +292,13 @@ impl<'k, H: Lending, A: Admission, T: Wait + Clock, E: ServerControl> Pages<'k, 
             Some(place) if place < self.host.tenants() => Some(place),
             _ => None,
         }
+    }
+
+    /// The cell of the tenant at this place.
+    fn cell_of(&self, place: u32) -> usize
+        ensures { result ≡ place % H.cells }
+    {
+        (place % self.host.cells()) as usize
     }
 
     fn tenant_page(&self, tenant: u32, cache: &mut StatisticsCache) -> Result<Outcome, AllocError>
@@ -323,7 +337,15 @@ impl<'k, H: Lending, A: Admission, T: Wait + Clock, E: ServerControl> Pages<'k, 
             return Ok(None);
         };
         self.tell_ages(tenant, &mut view.sessions);
+        self.tell_volume_age(place, &mut view.numbers);
         Ok(Some(view))
+    }
+
+    /// Adds how long ago a renewal began the volume of the tenant at this place, if one did.
+    fn tell_volume_age(&self, place: u32, numbers: &mut TenantNumbers)
+        ensures { (first : ℕ) (own : ItsTenant) → AreNumbersOf first own numbers.old → AreNumbersOf first own numbers.new }
+    {
+        numbers.volume_age = self.renewal_board.age(self.rt, place);
     }
 
     /// Adds to each session how long ago its last line was answered.
@@ -379,8 +401,21 @@ impl<'k, H: Lending, A: Admission, T: Wait + Clock, E: ServerControl> Pages<'k, 
             tenant: ended.tenant,
             session: ended.session,
         };
-        let cell = place % self.host.cells();
-        if !self.control.end(self.rt, cell as usize, named) {
+        if !self.control.end(self.rt, self.cell_of(place), named) {
+            return Ok(Outcome::Refused(HttpRefusal::WorkerBusy));
+        }
+        Ok(accepted(b"told\n".to_vec(self.alloc)?))
+    }
+
+    /// Asks a worker to renew a tenant.
+    fn renew(&self, tenant: u32) -> Result<Outcome, AllocError>
+        ensures { IfOk result (IsRenewalOutcome self.now.first_tenant (H.tenants self.now.host) H.cells
+            (E.asked self.now.control.now) tenant) }
+    {
+        let Some(place) = self.place_of(tenant) else {
+            return Ok(Outcome::Refused(HttpRefusal::NoTenant));
+        };
+        if !self.control.renew(self.rt, self.cell_of(place), place) {
             return Ok(Outcome::Refused(HttpRefusal::WorkerBusy));
         }
         Ok(accepted(b"told\n".to_vec(self.alloc)?))

@@ -2,6 +2,7 @@
 ghost use Rattle.std.specs.Prelude.{Bool, IsTrue, ℕ};
 ghost use Rattle.sb_connection.specs.declared.first_line.SessionName.{SessionName as ItsSessionName};
 
+use crate::renewal_board::RenewalBoard;
 use crate::stop_switch::StopSwitch;
 use sb_server::{ServerMetrics, SessionName};
 use std::sync::Wait;
@@ -12,6 +13,9 @@ pub trait ServerControl {
     // the worker that has this cell was told it of this session
     ghost told: { Self → ℕ → ItsSessionName → Type 0 };
 
+    // the worker that has this cell was told that this tenant is to be renewed
+    ghost asked: { Self → ℕ → ℕ → Type 0 };
+
     // the server was told to stop
     ghost stopped: { Self → Type 0 };
 
@@ -21,6 +25,10 @@ pub trait ServerControl {
     /// Asks the worker of this cell to end a session. False if it can't be asked.
     fn end<T: Wait>(&self, rt: &T, cell: usize, named: SessionName) -> bool
         ensures { IsTrue result → told self.now cell named };
+
+    /// Asks the worker of this cell to renew the tenant at this place. False if it can't be asked.
+    fn renew<T: Wait>(&self, rt: &T, cell: usize, tenant: u32) -> bool
+        ensures { IsTrue result → asked self.now cell tenant };
 
     /// Tells the server to stop. False if it can't be told.
     fn stop(&self) -> bool
@@ -37,10 +45,12 @@ pub trait ServerControl {
     fn look(&self);
 }
 
-/// The workers of a server, its stop, and whether it lets clients in.
+/// The workers of a server, its renewals, its stop, and whether it lets clients in.
 #[derive(Drop)]
 pub struct ServerControls {
     pub server_metrics: ServerMetrics,
+    /// When its tenants were renewed.
+    pub renewal_board: RenewalBoard,
     /// None: it can't be told to stop.
     stop_switch: Option<StopSwitch>,
     is_ready: AtomicBool,
@@ -48,9 +58,14 @@ pub struct ServerControls {
 
 impl ServerControls {
     /// Clients aren't let in yet.
-    pub fn new(server_metrics: ServerMetrics, stop_switch: Option<StopSwitch>) -> ServerControls {
+    pub fn new(
+        server_metrics: ServerMetrics,
+        renewal_board: RenewalBoard,
+        stop_switch: Option<StopSwitch>,
+    ) -> ServerControls {
         ServerControls {
             server_metrics,
+            renewal_board,
             stop_switch,
             is_ready: AtomicBool::new(false),
         }
@@ -67,12 +82,18 @@ impl ServerControl for ServerControls {
 
     ghost told = { λ _ _ _. ⊤ };
 
+    ghost asked = { λ _ _ _. ⊤ };
+
     ghost stopped = { λ _. ⊤ };
 
     ghost lets_in = { λ _ _. ⊤ };
 
     fn end<T: Wait>(&self, rt: &T, cell: usize, named: SessionName) -> bool {
         self.server_metrics.end_session(rt, cell, named)
+    }
+
+    fn renew<T: Wait>(&self, rt: &T, cell: usize, tenant: u32) -> bool {
+        self.server_metrics.renew_tenant(rt, cell, tenant)
     }
 
     fn stop(&self) -> bool {

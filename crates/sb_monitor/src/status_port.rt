@@ -13,7 +13,7 @@ use libc::net as system;
 use libc::types::pollfd;
 use sb_host::{Hosting, Lending, Stub};
 use sb_server::{
-    Admission, BackgroundTask, CommitHook, ServeError, ServerConfig, Watch, serve_all,
+    Admission, BackgroundTask, CommitHook, Renewals, ServeError, ServerConfig, Watch, serve_all,
 };
 use sb_status::StatisticsCache;
 use sb_words::{Log, Severity};
@@ -283,13 +283,14 @@ pub fn serve_beside<
     V: Watch + Sync,
     A: Admission + Sync,
     K: CommitHook + Sync,
+    E: Renewals + Sync,
     W: SideTask + Sync,
     G: BackgroundTask,
     T: Threads + Wait + Net + Clock + Sync,
 >(
     rt: &T,
     alloc: Global,
-    config: &ServerConfig<'_, V, A, K>,
+    config: &ServerConfig<'_, V, A, K, E>,
     host: H,
     side_task: &W,
     beside: &G,
@@ -304,7 +305,7 @@ where
             requires { IsSync T.row × IsSync W.row }
         { side_task.run(rt) },
         move || -> Result<Vec<Stub>, ServeError>
-            requires { IsSync T.row × IsSync V.row × IsSync A.row × IsSync K.row × IsSync H.row × IsSend H.Session.row
+            requires { IsSync T.row × IsSync V.row × IsSync A.row × IsSync K.row × IsSync E.row × IsSync H.row × IsSend H.Session.row
                 × (0 < config.now.terms.workers) × (config.now.terms.workers ≤ 16) }
         {
             let served = serve_all(rt, alloc, config, host, beside);

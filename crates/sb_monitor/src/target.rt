@@ -6,7 +6,7 @@ use sb_status::{Route, route_of};
 /// A page, or what a server is asked or told.
 #[derive(Clone, Copy)]
 pub(crate) enum Target {
-    /// A page of the host or of a tenant, or the end of a session.
+    /// A page of the host or of a tenant, the end of a session, or a renewal.
     Page(Route),
     /// The question whether clients are let in.
     Ready,
