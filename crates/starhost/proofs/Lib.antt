@@ -1,5 +1,6 @@
 mod Runs
 mod Told
 mod Servers
+mod Plains
 mod Commands
 mod Sending

@@ -3,7 +3,7 @@ use Rattle.std.proofs.Common.{◌≡◌, ◌≤◌, ℕ, List, length, Option, R
 use Rattle.std.proofs.lemmas.List.{length-map}
 use Rattle.std.specs.Prelude.{IfErr, OnOk}
 use Rattle.sb_words.specs.Words.{AskFor, AskOnce, IsAsked}
-use Rattle.sb_words.specs.declared.invocation.Paths.{Paths}
+use Rattle.sb_words.specs.Requests.{Request, request_of}
 use Rattle.sb_words.specs.declared.invocation.Invocation.{Invocation}
 use Rattle.sb_words.specs.declared.words.Asked.{Asked}
 use Rattle.sb_words.specs.declared.words.Asked.TheVariants.{For}
@@ -20,12 +20,12 @@ pub few_texts : {A B : Type 0} (f : A → B) (words : List A) → length words �
 few_texts f words few = subst (λ (n : ℕ). n ≤ 1) (sym (length-map words f)) few
 
 -- what is read is what the words ask for
-pub asked_for : (words : _) (a : Asked) (r : Invocation) (f : Paths) → IsAsked words a → a ≡ For r f → AskFor words r
-asked_for words a r f h is = (subst (IsAsked words) is h).0
+pub asked_for : (words : _) (a : Asked) (i : Invocation) → IsAsked words a → a ≡ For i → AskFor words (request_of i)
+asked_for words a i h is = subst (IsAsked words) is h
 
 -- and what else they ask for is the same
-pub as_asked : AskOnce → (words : _) (P : Invocation → Type 0) (a : Asked) (r q : Invocation) (f : Paths) → IsAsked words a → a ≡ For r f → AskFor words q → P r → P q
-as_asked once words P a r q f h is asks holds = subst P (once words r q (asked_for words a r f h is) asks) holds
+pub as_asked : AskOnce → (words : _) (P : Request → Type 0) (a : Asked) (i : Invocation) (q : Request) → IsAsked words a → a ≡ For i → AskFor words q → P (request_of i) → P q
+as_asked once words P a i q h is asks holds = subst P (once words (request_of i) q (asked_for words a i h is) asks) holds
 
 -- a command that is told as a success went well
 module _ {E P : Type 0} (denies : E → Type 0) (told : E → Option (List ℕ)) (errors more : E) where

@@ -1,12 +1,16 @@
 -- A server's first line and its last, and why it ends early.
-use Rattle.std.proofs.Common.{◌≡◌, ◌++◌, ℕ, false, List, Option, Result, Ok, Err, refl, inr, subst}
+use Rattle.std.proofs.Common.{◌≡◌, ◌⊎◌, ◌++◌, ℕ, false, List, Option, Result, Ok, Err, refl, inl, inr, subst}
 use Rattle.std.specs.Prelude.{IfErr, OnOk}
 use Rattle.std.specs.Io.KnownBytes.{Appends}
-use Rattle.std.proofs.KnownBytes.{Appends-trans}
+use Rattle.std.specs.List.{All}
+use Rattle.std.proofs.KnownBytes.{Appends-trans, Keeps-refl}
+use Rattle.sb_host.specs.Desk.{Stub}
 use Rattle.sb_server.specs.Policies.{anyone, policy}
-use Rattle.starhost.specs.Ends.{EndsEarly, FailsToServe}
+use Rattle.sb_server.specs.Renewals.{IsLeft}
+use Rattle.starhost.specs.Ends.{EndsEarly, FailsToTell}
+use Rattle.starhost.specs.Plains.{IsUnheard, IsUnserved}
 use Rattle.starhost.specs.Totals.{TellsServer, TellsTrails}
-use Rattle.sb_monitor.specs.Listening.{listening_line}
+use Rattle.sb_monitor.specs.Listening.{TellsPort, listening_line}
 use Rattle.starhost.specs.declared.fault.ProgramFault.{ProgramFault}
 
 pub tells_both : (old mid new : Option (List ℕ)) (b bound t tenants port : ℕ) (ended : Result (Unit {0}) ProgramFault) → b ≡ bound → t ≡ tenants
@@ -19,17 +23,28 @@ tells_both old mid new b bound t tenants port (Ok value) same_bound same_tenants
 )
 tells_both old mid new b bound t tenants port (Err why) same_bound same_tenants first none = none
 
--- it ends early behind its first line
 module _ {W : Type 0} (refuses : W → Type 0) (contents : W → Option (List ℕ)) (old mid new : W) where
-  pub ends_behind : (b bound t tenants first port : ℕ) (ended : Result (Unit {0}) ProgramFault) → b ≡ bound → t ≡ tenants
-      → Appends (contents old) (contents mid) (listening_line port) → IfErr ended (FailsToServe refuses contents (policy false anyone) b t first mid new)
+  -- it ends early behind its last connection
+  pub ends_behind : (b bound t tenants first : ℕ) (stubs : List Stub) (ended : Result (Unit {0}) ProgramFault) → b ≡ bound → t ≡ tenants
+      → TellsPort (contents old) (contents mid) → All (IsLeft (policy false anyone) false) stubs
+      → IfErr ended (λ why. FailsToTell refuses contents b t first stubs mid new why)
       → IfErr ended (EndsEarly refuses contents bound tenants first old new)
-  ends_behind b bound t tenants first port (Ok value) same_bound same_tenants told fails = fails
-  ends_behind b bound t tenants first port (Err why) same_bound same_tenants told fails =
+  ends_behind b bound t tenants first stubs (Ok value) same_bound same_tenants told left fails = fails
+  ends_behind b bound t tenants first stubs (Err why) same_bound same_tenants told left fails =
       inr (
-        port,
+        told.0,
         mid,
-        told,
-        subst (λ x. FailsToServe refuses contents (policy false anyone) x tenants first mid new why) same_bound
-            (subst (λ x. FailsToServe refuses contents (policy false anyone) b x first mid new why) same_tenants fails),
+        told.1,
+        inr (
+          stubs,
+          left,
+          subst (λ x. FailsToTell refuses contents x tenants first stubs mid new why) same_bound (subst (λ x. FailsToTell refuses contents b x first stubs mid new why) same_tenants fails),
+        ),
       )
+
+module _ {W : Type 0} (refuses : W → Type 0) (contents : W → Option (List ℕ)) (old new : W) where
+  -- or nothing listens, or connections aren't served
+  pub ends_unserved : (bound tenants first : ℕ) (why : ProgramFault) → IsUnheard refuses contents old new why ⊎ (TellsPort (contents old) (contents new) × IsUnserved why)
+      → EndsEarly refuses contents bound tenants first old new why
+  ends_unserved bound tenants first why (inl unheard) = inl unheard
+  ends_unserved bound tenants first why (inr (told, unserved)) = inr (told.0, new, told.1, inl (Keeps-refl (contents new), unserved))

@@ -1,5 +1,5 @@
 -- Machine: why a server ends early.
-use Rattle.std.specs.Prelude.{ℕ, ◌≡◌, ◌⊎◌, false, List, Option, Err}
+use Rattle.std.specs.Prelude.{ℕ, ◌≡◌, ◌⊎◌, Bool, false, List, Option, Err}
 use Rattle.std.specs.List.{All}
 use Rattle.std.specs.Io.KnownBytes.{Appends, Keeps}
 use Rattle.sb_wire.specs.Stream.{MayFail}
@@ -8,7 +8,7 @@ use Rattle.sb_host.specs.Finish.{Finishes}
 use Rattle.sb_host.specs.declared.finish.FinishError.{FinishError}
 use Rattle.sb_host.specs.Desk.{Stub}
 use Rattle.sb_server.specs.Policies.{Policy, anyone, policy}
-use Rattle.sb_server.specs.Closed.{LeavesClosed}
+use Rattle.sb_server.specs.Renewals.{IsLeft}
 use Rattle.sb_server.specs.declared.server.ServeError.{ServeError}
 use Rattle.sb_monitor.specs.Listening.{FailsToListen, listening_line}
 use Rattle.sb_monitor.specs.declared.listener.ListenError.{ListenError}
@@ -28,15 +28,15 @@ module _ {W : Type 0} (refuses : W → Type 0) (contents : W → Option (List �
       WritesNot writer after why
       ((why ≡ Stream stream.NoMemory) ⊎ ((e : FinishError) × Finishes bound tenants stubs (Err e) × (why ≡ unfinished_as first e)))
 
-  -- So it is behind the last connection, with receipts that closed sessions left; or connections weren't served.
-  abbrev pub FailsToServe : Policy → ℕ → ℕ → ℕ → W → W → ProgramFault → Type 0
-  FailsToServe p bound tenants first writer after why =
+  -- So it is behind the last connection, with receipts that sessions left, all of them closed where tenants aren't renewed; or connections weren't served.
+  abbrev pub FailsToServe : Policy → Bool → ℕ → ℕ → ℕ → W → W → ProgramFault → Type 0
+  FailsToServe p may_renew bound tenants first writer after why =
       (Keeps (contents writer) (contents after) × ((e : ServeError) × (why ≡ unserved_as e)))
-      ⊎ ((stubs : List Stub) × All (LeavesClosed p) stubs × FailsToTell bound tenants first stubs writer after why)
+      ⊎ ((stubs : List Stub) × All (IsLeft p may_renew) stubs × FailsToTell bound tenants first stubs writer after why)
 
   -- a server without keys ends so, or behind its first line
   abbrev pub EndsEarly : ℕ → ℕ → ℕ → W → W → ProgramFault → Type 0
   EndsEarly bound tenants first writer after why =
       ((e : ListenError) × (why ≡ unheard_as e) × FailsToListen refuses contents writer after e)
       ⊎ ((port : ℕ) × (mid : W) × Appends (contents writer) (contents mid) (listening_line port)
-      × FailsToServe (policy false anyone) bound tenants first mid after why)
+      × FailsToServe (policy false anyone) false bound tenants first mid after why)

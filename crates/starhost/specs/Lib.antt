@@ -4,4 +4,5 @@ pub mod Parses
 pub mod Commands
 pub mod Faults
 pub mod Ends
+pub mod Plains
 pub mod Reads

@@ -1,8 +1,8 @@
 //! Why a server or a replay ended early, and the line that tells it.
 ghost use Rattle.std.specs.Prelude.{◌≡◌, ◌++◌, IfOk, OnOk};
-ghost use Rattle.starhost.specs.Faults.{TellsFault, fault_text, numbered_text};
+ghost use Rattle.starhost.specs.Faults.{TellsEnd, TellsFault, fault_text, numbered_text};
 
-use crate::run_report::fault;
+use crate::run_report::{SUCCESS, fault};
 use sb_backup::{BackupError, push_number};
 use sb_durable::JournalFault;
 use sb_wire::{Sink, StreamError, push_labelled, write_bytes};
@@ -41,6 +41,20 @@ pub enum ProgramFault {
     TrailMissing { tenant: u64, session: u32 },
     /// The session's receipts are others than those entries.
     TrailMismatch { tenant: u64, session: u32 },
+}
+
+/// Reports the fault that ended a command, if one did.
+pub(crate) fn tell_end<E: Sink>(
+    alloc: Global,
+    ended: Result<(), ProgramFault>,
+    errors: &mut E,
+) -> u8
+    ensures { TellsEnd E.refuses E.contents errors.old errors.new ended result }
+{
+    match ended {
+        Ok(()) => SUCCESS,
+        Err(why) => tell_fault(alloc, why, errors),
+    }
 }
 
 /// Writes the line of a fault, or the line of a lack of memory if there is none for it.

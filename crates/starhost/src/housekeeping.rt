@@ -15,6 +15,9 @@ pub(crate) trait Chore {
     /// What was seen of it.
     type Seen: Drop;
 
+    /// True if there is nothing to look at.
+    fn is_idle(&self) -> bool;
+
     fn first(&self) -> Self::Seen;
 
     /// Looks at it, behind what was seen last.
@@ -26,6 +29,10 @@ pub(crate) struct NoChore;
 
 impl Chore for NoChore {
     type Seen = ();
+
+    fn is_idle(&self) -> bool {
+        true
+    }
 
     fn first(&self) {}
 
@@ -86,6 +93,10 @@ pub(crate) struct Housekeeping<'c, 's, 'r, 'j, C, H, T, O> {
 impl<'c, 's, 'r, 'j, C: Chore, H: Lending, T: Files, O: Log> BackgroundTask
     for Housekeeping<'c, 's, 'r, 'j, C, H, T, O> {
     fn run<R: Wait>(&self, rt: &R, over: &ShutdownSignal) {
+        // where a thread can't be started, its job may wait for the end of this one
+        if self.chore.is_idle() && self.long_stop.is_none() {
+            return;
+        }
         let mut seen = self.chore.first();
         for _ in rt.forever() {
             if !over.lasts(rt) {

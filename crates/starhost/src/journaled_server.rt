@@ -6,17 +6,18 @@ ghost use Rattle.sb_monitor.specs.Listening.{TellsPort};
 
 use crate::fault::ProgramFault;
 use crate::housekeeping::Chore;
-use crate::server_context::{Entrance, ServerContext, ServerEnd};
+use crate::server_context::{Entrance, ServerContext};
+use crate::server_end::ServerEnd;
 use crate::system::System;
 use sb_durable::{
     Disk, File as JournalFile, Flusher, Head, JournalError, JournalFault, Recorder, Wary,
     open_recorder, tell_no_journal, tell_not_recorded,
 };
-use sb_host::{Lending, Stub};
+use sb_host::{Lending, Renewing, Stub};
 use sb_monitor::{EventLog, Pages, StatusPort};
 use sb_server::{Admission, CommitHook, CommitStatus};
 use sb_wire::Sink;
-use sb_words::Syncs;
+use sb_words::{JournalWords, Syncs};
 use std::alloc::Global;
 use std::net::TcpListener;
 use std::rt::Clock;
@@ -102,14 +103,14 @@ impl<'k, H: Lending, D: Disk, T: Eprint + Clock> CommitHook for JournalHook<'k, 
     }
 }
 
-impl<'k, H: Lending + Sync, T: System + Sync> ServerContext<'k, H, T>
+impl<'k, H: Renewing + Sync, T: System + Sync> ServerContext<'k, H, T>
 where
     H::Session: Send,
 {
-    /// Makes the tenants of the journal at this path, and serves connections that are recorded in it.
+    /// Makes the tenants of this journal, and serves connections that are recorded in it.
     pub(crate) fn record<A: Admission + Sync, G: Chore, W: Sink>(
         &self,
-        path: &str,
+        journal: JournalWords<'_>,
         gate: Entrance<'_, '_, A, G>,
         port: &Option<StatusPort<Pages<'_, H, A, T>>>,
         writer: &mut W,
@@ -120,7 +121,7 @@ where
             tenants: self.plan.tenants,
             bound: u64::from(self.plan.bound),
         };
-        let syncs = self.paths.syncs;
+        let JournalWords { path, syncs } = journal;
         self.tell(b"STATUS=the journal is played\n");
         let mut opened = None;
         self.beside(port, || {

@@ -5,9 +5,10 @@ ghost use Rattle.sb_monitor.specs.Listening.{TellsPort};
 use crate::fault::ProgramFault;
 use crate::housekeeping::Chore;
 use crate::part_faults::unread;
-use crate::server_context::{Entrance, ServerContext, ServerEnd};
+use crate::server_context::{Entrance, ServerContext};
+use crate::server_end::ServerEnd;
 use crate::system::System;
-use sb_host::Lending;
+use sb_host::Renewing;
 use sb_keys::{
     AnyFiles, KeyFile, KeyFiles, KeyList, KeySource, KeyWatch, Look, keys_at, tell_no_keys,
 };
@@ -24,6 +25,10 @@ struct KeyTask<'p, 'l, 'k, L: KeyFiles, S, O> {
 impl<'p, 'l, 'k, L: KeyFiles, S: KeySource<L>, O: Log> Chore for KeyTask<'p, 'l, 'k, L, S, O> {
     type Seen = Look;
 
+    fn is_idle(&self) -> bool {
+        false
+    }
+
     fn first(&self) -> Look {
         self.watch.first()
     }
@@ -33,7 +38,7 @@ impl<'p, 'l, 'k, L: KeyFiles, S: KeySource<L>, O: Log> Chore for KeyTask<'p, 'l,
     }
 }
 
-impl<'k, H: Lending + Sync, T: System + Sync> ServerContext<'k, H, T>
+impl<'k, H: Renewing + Sync, T: System + Sync> ServerContext<'k, H, T>
 where
     H::Session: Send,
 {

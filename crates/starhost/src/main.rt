@@ -6,15 +6,16 @@ mod host_end;
 mod housekeeping;
 mod journaled_server;
 mod keys;
-mod loaded_run;
 mod parse;
 mod part_faults;
 mod program;
 mod refusal_lines;
 mod replay;
+mod run;
 mod run_report;
 mod server;
 mod server_context;
+mod server_end;
 mod system;
 mod terms;
 

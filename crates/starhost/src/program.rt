@@ -1,46 +1,45 @@
 //! What a command line is answered.
-ghost use Rattle.std.specs.Prelude.{◌≡◌, ◌≤◌, ◌⊎◌, IfSome, length, map};
-ghost use Rattle.sb_wire.specs.Stream.{AnswersFresh};
-ghost use Rattle.starhost.specs.Commands.{GoesFresh, Shows, Tells, TellsRun, status_of};
+ghost use Rattle.std.specs.Prelude.{◌≡◌, ◌≤◌, ◌⊎◌, IfSome, List, None, Option, Some, ℕ, length, map};
 ghost use Rattle.sb_wire.specs.Faults.{fault_line};
-ghost use Rattle.starhost.specs.Faults.{TellsEnd};
-ghost use Rattle.starhost.specs.Parses.{TellsLines};
-ghost use Rattle.sb_replay.specs.Replay.{Replays};
-ghost use Rattle.starhost.specs.Totals.{TellsServer};
-ghost use Rattle.sb_keys.specs.KeyDigests.{TellsDigest};
+ghost use Rattle.sb_wire.specs.Stream.{AnswersFresh};
 ghost use Rattle.sb_backup.specs.Dumps.{DumpsInput, HaveScripts};
-ghost use Rattle.starhost.specs.Reads.{Goes, Succeeds};
-ghost use Rattle.sb_durable.specs.JournaledRuns.{AnswersJournaled};
 ghost use Rattle.sb_backup.specs.Loads.{AnswersLoaded};
 ghost use Rattle.sb_backup.specs.Outputs.{Writes, WritesOf};
-ghost use Rattle.sb_words.specs.declared.invocation.Dumping.{Dumping as ItsDumping};
-ghost use Rattle.sb_words.specs.declared.invocation.HostOptions.{HostOptions as ItsHostOptions};
-ghost use Rattle.sb_words.specs.declared.invocation.Invocation.{Invocation as ItsInvocation};
-ghost use Rattle.sb_words.specs.declared.invocation.Invocation.TheVariants as request;
-ghost use Rattle.sb_words.specs.declared.invocation.Run.{Run as ItsRun};
-ghost use Rattle.sb_words.specs.declared.invocation.ServerOptions.{ServerOptions as ItsServerOptions};
-ghost use Rattle.sb_words.specs.Within.{AreRun, IsWithin};
+ghost use Rattle.sb_durable.specs.JournaledRuns.{AnswersJournaled};
+ghost use Rattle.sb_keys.specs.KeyDigests.{TellsDigest};
+ghost use Rattle.sb_replay.specs.Replay.{Replays};
+ghost use Rattle.sb_words.specs.Refusals.{refusal_text};
+ghost use Rattle.sb_words.specs.Requests as request;
+ghost use Rattle.sb_words.specs.Requests.{Beginning, Request, request_of, text_of};
+ghost use Rattle.sb_words.specs.Within.{AreDump, IsWithin};
 ghost use Rattle.sb_words.specs.Words.{AskFor, AskForHelp, AskForVersion, HasFault, HaveUnfit};
 ghost use Rattle.sb_words.specs.declared.argument.Unfit.{Unfit as ItsUnfit};
-ghost use Rattle.sb_words.specs.Refusals.{refusal_text};
+ghost use Rattle.sb_words.specs.declared.invocation.Dumping.{Dumping as ItsDumping};
+ghost use Rattle.sb_words.specs.declared.invocation.HostOptions.{HostOptions as ItsHostOptions};
+ghost use Rattle.sb_words.specs.declared.invocation.Run.{Run as ItsRun};
+ghost use Rattle.sb_words.specs.declared.invocation.ServerOptions.{ServerOptions as ItsServerOptions};
+ghost use Rattle.sb_words.specs.declared.syncs.Syncs.{Syncs as ItsSyncs};
+ghost use Rattle.starhost.specs.Commands.{Shows, Tells};
+ghost use Rattle.starhost.specs.Parses.{TellsLines};
+ghost use Rattle.starhost.specs.Reads.{Goes, Succeeds};
+ghost use Rattle.starhost.specs.Totals.{TellsServer};
 
-use crate::fault::{ProgramFault, tell_fault};
-use crate::loaded_run::run_loaded;
+use crate::fault::tell_end;
 use crate::parse::parse_lines;
 use crate::part_faults::{of_backup, of_digest, of_journal};
 use crate::refusal_lines::{refuse, refuse_part};
 use crate::replay::replay;
-use crate::run_report::{Console, SUCCESS, fault, tell_run, tell_stream_end};
+use crate::run::run;
+use crate::run_report::{Console, SUCCESS, fault, tell_stream_end};
 use crate::server::serve;
-use crate::server_context::keep;
 use crate::system::System;
 use sb_backup::{dump_all, dump_tenant};
-use sb_durable::{compact, run_journaled};
+use sb_durable::compact;
 use sb_keys::tell_digest;
 use sb_monitor::EventLog;
-use sb_wire::{Sink, Source, StreamError, Summary, run_fresh, write_bytes};
+use sb_wire::{Sink, Source, StreamError, write_bytes};
 use sb_words::{
-    ALLOWED, Asked, HELP, Invocation, Paths, Run, Severity, VERSION, read_words, words_ask_once,
+    ALLOWED, Asked, DumpWords, HELP, Invocation, Severity, VERSION, read_words, words_ask_once,
 };
 use std::alloc::Global;
 use std::convert::AsStr;
@@ -55,51 +54,48 @@ pub fn command<T: System + Sync, S: AsStr, R: Source, W: Sink, E: Sink>(
     errors: &mut Console<E>,
 ) -> u8
     // with status 0, words that ask for a run have the definition's text for the input
-    ensures runs { (r : ItsRun) → AskFor (map S.text words.now) (request.Run r)
+    ensures runs { (r : ItsRun) → AskFor (map S.text words.now) (request.run r request.fresh)
         → result ≡ 0 → WritesOf R.remaining W.contents reader.old writer.old writer.new
         (AnswersFresh r.tenants r.bound) }
     ensures usual { length words.now ≤ 1 → result ≡ 0 →
         WritesOf R.remaining W.contents reader.old writer.old writer.new (AnswersFresh 16 1000) }
-    // and words that ask for a server its port and its trails
-    ensures serves { (s : ItsServerOptions) → AskFor (map S.text words.now) (request.Serve s)
+    // and words that ask for a run on files what it is answered on tenants that scripts made
+    ensures loads { (r : ItsRun) (path : List ℕ) → AskFor (map S.text words.now) (request.run r (request.folder path))
+        → result ≡ 0 → WritesOf R.remaining W.contents reader.old writer.old writer.new
+        (AnswersLoaded r.tenants r.bound) }
+    // and words that ask for a run with a journal what it is answered on tenants that a journal made
+    ensures records { (r : ItsRun) (path : List ℕ) (syncs : ItsSyncs)
+        → AskFor (map S.text words.now) (request.run r (request.journal path syncs))
+        → result ≡ 0 → WritesOf R.remaining W.contents reader.old writer.old writer.new
+        (AnswersJournaled r.tenants r.bound) }
+    // and words that ask for a server, whatever it begins with, its port and its trails
+    ensures serves { (s : ItsServerOptions) (begins : Beginning) (dump_to keys : Option (List ℕ))
+        → AskFor (map S.text words.now) (request.serve s begins dump_to keys)
         → result ≡ 0 → Writes W.contents writer.old writer.new
         (TellsServer s.hosting.run.bound s.hosting.run.tenants) }
     // and words that ask for a replay what the sessions of the input were answered
-    ensures replays { (h : ItsHostOptions) → AskFor (map S.text words.now) (request.Replay h)
+    ensures replays { (h : ItsHostOptions) → AskFor (map S.text words.now) (request.replay h)
         → result ≡ 0 → WritesOf R.remaining W.contents reader.old writer.old writer.new
         (Replays h.run.tenants h.run.bound) }
     // and words that ask for it which lines of the input are commands
-    ensures parses { AskFor (map S.text words.now) request.Parse
+    ensures parses { AskFor (map S.text words.now) request.parse
         → result ≡ 0 → WritesOf R.remaining W.contents reader.old writer.old writer.new TellsLines }
     // and words that ask for a dump the script of a tenant, as the input leaves it
-    ensures dumps { (d : ItsDumping) → AskFor (map S.text words.now) (request.Dump d)
+    ensures dumps { (d : ItsDumping) → AskFor (map S.text words.now) (request.dump d None)
         → result ≡ 0 → WritesOf R.remaining W.contents reader.old writer.old writer.new
         (DumpsInput d.run.tenants d.run.bound d.tenant) }
-    // and words that ask for a server with files what a server has
-    ensures keeps { (s : ItsServerOptions) → AskFor (map S.text words.now) (request.Keep s)
-        → result ≡ 0 → Writes W.contents writer.old writer.new
-        (TellsServer s.hosting.run.bound s.hosting.run.tenants) }
-    // and words that ask for a run on files what it is answered on tenants that scripts made
-    ensures loads { (r : ItsRun) → AskFor (map S.text words.now) (request.Load r)
-        → result ≡ 0 → WritesOf R.remaining W.contents reader.old writer.old writer.new
-        (AnswersLoaded r.tenants r.bound) }
     // and words that ask for a dump of all nothing, where each tenant has a script as the input leaves it
-    ensures dumps_all { (r : ItsRun) → AskFor (map S.text words.now) (request.DumpAll r)
+    ensures dumps_all { (d : ItsDumping) (path : List ℕ) → AskFor (map S.text words.now) (request.dump d (Some path))
         → result ≡ 0 → (writer.new ≡ writer.old)
-        × IfSome (R.remaining reader.old) (HaveScripts r.tenants r.bound) }
-    // and words that ask for a run with a journal what it is answered on tenants that a journal made
-    ensures records { (r : ItsRun) → AskFor (map S.text words.now) (request.Record r)
-        → result ≡ 0 → WritesOf R.remaining W.contents reader.old writer.old writer.new
-        (AnswersJournaled r.tenants r.bound) }
+        × IfSome (R.remaining reader.old) (HaveScripts d.run.tenants d.run.bound) }
     // and words that ask for it the digest of the key that the input's first line is
-    ensures digests { AskFor (map S.text words.now) request.Key
+    ensures digests { AskFor (map S.text words.now) request.key
         → result ≡ 0 → TellsDigest (R.remaining reader.old) (R.remaining reader.new)
         (W.contents writer.old) (W.contents writer.new) }
     // whatever the status: of a run how its stream went; of a server, a replay or a dump the fault that it ended with, and
-    // why;
-    // how the stream of lines went of which it is told whether they are commands; help and the version, as they are asked
-    // for; words with a fault; the first part that isn't allowed, by its line; and want of memory
-    ensures asked { ((q : ItsInvocation) × AskFor (map S.text words.now) q
+    // why; how the stream of lines went of which it is told whether they are commands; help and the version, as they are
+    // asked for; words with a fault; the first part that isn't allowed, by its line; and want of memory
+    ensures asked { ((q : Request) × AskFor (map S.text words.now) q
         × Goes R.fails R.remaining W.refuses W.contents E.refuses E.contents reader.old reader.new
         writer.old writer.new errors.old.is_terminal errors.old.sink errors.new.sink result q)
         ⊎ (AskForHelp (map S.text words.now) × (reader.new ≡ reader.old)
@@ -120,7 +116,7 @@ pub fn command<T: System + Sync, S: AsStr, R: Source, W: Sink, E: Sink>(
     // for the proof: words ask for one thing
     words_ask_once();
     match read_words(alloc, words) {
-        Ok(Asked::For(asked, paths)) => answer(rt, alloc, asked, paths, reader, writer, errors),
+        Ok(Asked::For(asked)) => answer(rt, alloc, asked, reader, writer, errors),
         Ok(Asked::Help) => show(HELP, writer, &mut errors.sink),
         Ok(Asked::Version) => show(VERSION, writer, &mut errors.sink),
         Ok(Asked::Refused(error)) => refuse(alloc, &error, &mut errors.sink),
@@ -133,20 +129,19 @@ pub fn command<T: System + Sync, S: AsStr, R: Source, W: Sink, E: Sink>(
 fn answer<T: System + Sync, R: Source, W: Sink, E: Sink>(
     rt: &T,
     alloc: Global,
-    wanted: Invocation,
-    paths: Paths<'_>,
+    wanted: Invocation<'_>,
     reader: &mut R,
     writer: &mut W,
     errors: &mut Console<E>,
 ) -> u8
     requires { IsWithin wanted }
     ensures succeeds { result ≡ 0 → Succeeds R.remaining W.contents reader.old reader.new
-        writer.old writer.new wanted }
+        writer.old writer.new (request_of wanted.entry) }
     ensures goes { Goes R.fails R.remaining W.refuses W.contents E.refuses E.contents reader.old reader.new
-        writer.old writer.new errors.old.is_terminal errors.old.sink errors.new.sink result wanted }
+        writer.old writer.new errors.old.is_terminal errors.old.sink errors.new.sink result (request_of wanted.entry) }
 {
     match wanted {
-        Invocation::Run(asked) => run(alloc, asked, reader, writer, errors),
+        Invocation::Run(asked) => run(rt, alloc, asked, reader, writer, errors),
         Invocation::Serve(asked) => {
             let ended = serve(rt, alloc, asked, writer);
             tell_end(alloc, ended, &mut errors.sink)
@@ -159,28 +154,10 @@ fn answer<T: System + Sync, R: Source, W: Sink, E: Sink>(
             let ended = parse_lines(alloc, reader, writer);
             tell_stream_end(ended, &mut errors.sink)
         }
-        Invocation::Load(asked) => run_loaded(rt, alloc, asked, paths.load, reader, writer, errors),
-        Invocation::Record(asked) => {
-            let log = EventLog::new(rt, Severity::Info);
-            let ended = run_journaled(rt, alloc, &log, asked, paths, reader, writer);
-            tell_end(alloc, of_journal(ended), &mut errors.sink)
-        }
-        Invocation::Keep(asked) => {
-            let ended = keep(rt, alloc, asked, paths, writer);
-            tell_end(alloc, ended, &mut errors.sink)
-        }
-        Invocation::Dump(asked) => {
-            let ended = dump_tenant(alloc, asked, reader, writer);
-            tell_end(alloc, of_backup(ended), &mut errors.sink)
-        }
-        Invocation::DumpAll(asked) => {
-            let log = EventLog::new(rt, Severity::Info);
-            let ended = dump_all(rt, alloc, &log, asked, paths.into, reader);
-            tell_end(alloc, of_backup(ended), &mut errors.sink)
-        }
+        Invocation::Dump(asked) => dump(rt, alloc, asked, reader, writer, errors),
         Invocation::Compact(asked) => {
             let log = EventLog::new(rt, Severity::Info);
-            let ended = compact(rt, alloc, &log, asked, paths.old, paths.new);
+            let ended = compact(rt, alloc, &log, asked);
             tell_end(alloc, of_journal(ended), &mut errors.sink)
         }
         Invocation::Key => {
@@ -190,42 +167,32 @@ fn answer<T: System + Sync, R: Source, W: Sink, E: Sink>(
     }
 }
 
-/// Answers the lines of the input on a fresh cell, and tells how that went.
-fn run<R: Source, W: Sink, E: Sink>(
+/// Writes the script of one tenant, or those of all to files, and tells how that went.
+fn dump<T: System, R: Source, W: Sink, E: Sink>(
+    rt: &T,
     alloc: Global,
-    asked: Run,
+    asked: DumpWords<'_>,
     reader: &mut R,
     writer: &mut W,
     errors: &mut Console<E>,
 ) -> u8
-    requires { AreRun asked }
-    ensures runs { result ≡ 0 → WritesOf R.remaining W.contents reader.old writer.old writer.new
-        (AnswersFresh asked.tenants asked.bound) }
-    ensures goes { (ended : _) × (summary : _) × (result ≡ status_of ended)
-        × GoesFresh R.fails R.remaining W.refuses W.contents asked.tenants asked.bound
-        reader.old reader.new writer.old writer.new ended summary
-        × TellsRun E.refuses E.contents errors.old.is_terminal errors.old.sink errors.new.sink
-        summary ended }
+    requires { AreDump asked.dump }
+    ensures succeeds { result ≡ 0 → Succeeds R.remaining W.contents reader.old reader.new
+        writer.old writer.new (request.dump asked.entry.dump (text_of asked.entry.into)) }
+    ensures goes { Goes R.fails R.remaining W.refuses W.contents E.refuses E.contents reader.old reader.new
+        writer.old writer.new errors.old.is_terminal errors.old.sink errors.new.sink result
+        (request.dump asked.entry.dump (text_of asked.entry.into)) }
 {
-    let mut summary = Summary::new();
-    let ended = run_fresh(
-        alloc,
-        asked.tenants,
-        asked.bound,
-        reader,
-        writer,
-        &mut summary,
-    );
-    tell_run(alloc, &summary, ended, errors)
-}
-
-/// Reports the fault that ended a server, a replay or a dump, if one did.
-fn tell_end<E: Sink>(alloc: Global, ended: Result<(), ProgramFault>, errors: &mut E) -> u8
-    ensures { TellsEnd E.refuses E.contents errors.old errors.new ended result }
-{
-    match ended {
-        Ok(()) => SUCCESS,
-        Err(why) => tell_fault(alloc, why, errors),
+    match asked.into {
+        None => {
+            let ended = dump_tenant(alloc, asked.dump, reader, writer);
+            tell_end(alloc, of_backup(ended), &mut errors.sink)
+        }
+        Some(path) => {
+            let log = EventLog::new(rt, Severity::Info);
+            let ended = dump_all(rt, alloc, &log, asked.dump.run, Some(path), reader);
+            tell_end(alloc, of_backup(ended), &mut errors.sink)
+        }
     }
 }
 

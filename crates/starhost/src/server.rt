@@ -1,61 +1,53 @@
-//! A server, from its port to its last line.
-ghost use Rattle.std.specs.Prelude.{◌≡◌, ◌<◌, ◌≤◌, IfErr, IfOk, OnOk};
+//! A server, from its words to its last line.
+ghost use Rattle.std.specs.Prelude.{◌≡◌, ◌<◌, ◌≤◌, IfErr, IfOk, OnOk, None, is_ok, true};
 ghost use Rattle.sb_host.specs.Opening.{AreNames};
-ghost use Rattle.sb_server.specs.Policies.{policy};
-ghost use Rattle.starhost.specs.Ends.{EndsEarly, FailsToServe};
-ghost use Rattle.starhost.specs.Faults.{unserved_as};
-ghost use Rattle.starhost.specs.Totals.{TellsServer, TellsTrails};
 ghost use Rattle.sb_backup.specs.Outputs.{Writes};
+ghost use Rattle.sb_words.specs.Requests.{IsPlain, beginning_of, text_of};
 ghost use Rattle.sb_words.specs.Within.{AreServer};
+ghost use Rattle.starhost.specs.Ends.{EndsEarly};
+ghost use Rattle.starhost.specs.Plains.{IsPlainServer};
+ghost use Rattle.starhost.specs.Totals.{TellsServer};
 
 use crate::fault::ProgramFault;
-use crate::host_end::finish;
-use crate::part_faults::unheard;
+use crate::server_context::ServerContext;
+use crate::server_end::{OUT_OF_MEMORY, finish_served};
+use crate::system::System;
 use crate::terms::{Plan, plan_of};
-use sb_durable::JournalFault;
 use sb_host::{Host, Naming, Opened};
-use sb_monitor::{EventLog, Supervisor, listen};
-use sb_server::{
-    Admission, CommitHook, NoBackgroundTask, NoJournal, Open, ServeError, ServerConfig,
-    ServerMetrics, Watch, serve_all,
-};
-use sb_wire::{Sink, StreamError};
-use sb_words::ServerOptions;
+use sb_monitor::{EventLog, RenewalBoard, ServerControls, StopSwitch, Supervisor};
+use sb_server::ServerMetrics;
+use sb_wire::Sink;
+use sb_words::ServeWords;
 use std::alloc::{AllocError, Global};
 use std::marker::Brand;
-use std::net::{Net, TcpListener, TcpStream};
-use std::rt::{Clock, Env};
-use std::sync::Wait;
-use std::thread::Threads;
+use std::rt::Clock;
+use std::time::Instant;
 
-pub(crate) const OUT_OF_MEMORY: ProgramFault = ProgramFault::Stream(StreamError::NoMemory);
-
-/// Serves connections over TCP on this machine, until the last one has ended.
-pub(crate) fn serve<
-    T: Threads
-        + Wait
-        + Net<Listener = TcpListener, Stream = TcpStream>
-        + Eprint
-        + Clock
-        + Env
-        + Sync,
-    W: Sink,
->(rt: &T, alloc: Global, serving: ServerOptions, writer: &mut W) -> Result<(), ProgramFault>
-    requires { AreServer serving }
+/// Serves connections over TCP on this machine, until the last one has ended. Error: the fault that ended it, or that
+/// not all files were written behind it.
+pub(crate) fn serve<T: System + Sync, W: Sink>(
+    rt: &T,
+    alloc: Global,
+    words: ServeWords<'_>,
+    writer: &mut W,
+) -> Result<(), ProgramFault>
+    requires { AreServer words.options }
     ensures ok { OnOk result (Writes W.contents writer.old writer.new
-        (TellsServer serving.hosting.run.bound serving.hosting.run.tenants)) }
-    ensures err { IfErr result (EndsEarly W.refuses W.contents serving.hosting.run.bound serving.hosting.run.tenants
-        serving.first_tenant writer.old writer.new) }
+        (TellsServer words.entry.options.hosting.run.bound words.entry.options.hosting.run.tenants)) }
+    ensures err { IsPlain words.entry.options (beginning_of words.entry.origin) (text_of words.entry.dump_to)
+        (text_of words.entry.keys) → IfErr result (EndsEarly W.refuses W.contents
+        words.entry.options.hosting.run.bound words.entry.options.hosting.run.tenants
+        words.entry.options.first_tenant writer.old writer.new) }
 {
-    let plan = plan_of(serving);
+    let plan = plan_of(words.options);
     match opened_by(alloc, plan) {
-        Ok(opened) => serve_host::<Brand, T, W>(rt, alloc, opened, plan, writer),
+        Ok(opened) => serve_host::<Brand, T, W>(rt, alloc, opened, plan, words, writer),
         Err(_) => Err(OUT_OF_MEMORY),
     }
 }
 
 /// The parts of a server's host.
-pub(crate) fn opened_by(alloc: Global, plan: Plan) -> Result<Opened, AllocError>
+fn opened_by(alloc: Global, plan: Plan) -> Result<Opened, AllocError>
     requires tenants { (0 < plan.tenants) × (plan.tenants ≤ 256) × (plan.bound ≤ 1000) }
     requires cells { (0 < plan.cells) × (plan.cells ≤ 16) }
     ensures { IfOk result (λ o. (o.tenants ≡ plan.tenants) × (o.cells ≡ plan.cells) × (o.bound ≡ plan.bound)) }
@@ -68,86 +60,88 @@ pub(crate) fn opened_by(alloc: Global, plan: Plan) -> Result<Opened, AllocError>
 }
 
 /// Serves a host of these parts.
-fn serve_host<
-    N: Naming + Send + Sync,
-    T: Threads
-        + Wait
-        + Net<Listener = TcpListener, Stream = TcpStream>
-        + Eprint
-        + Clock
-        + Env
-        + Sync,
-    W: Sink,
->(rt: &T, alloc: Global, opened: Opened, plan: Plan, writer: &mut W) -> Result<(), ProgramFault>
+fn serve_host<N: Naming + Send + Sync, T: System + Sync, W: Sink>(
+    rt: &T,
+    alloc: Global,
+    opened: Opened,
+    plan: Plan,
+    words: ServeWords<'_>,
+    writer: &mut W,
+) -> Result<(), ProgramFault>
     requires named { AreNames N.table N.tenants N.cells N.bound N.name N.parts opened }
     requires cells { opened.cells ≡ plan.cells }
+    requires bound { plan.bound ≤ 1000 }
     requires workers { (0 < plan.terms.workers) × (plan.terms.workers ≤ 16) }
-    ensures ok { OnOk result (Writes W.contents writer.old writer.new
-        (TellsServer opened.bound opened.tenants)) }
-    ensures err { IfErr result (EndsEarly W.refuses W.contents opened.bound opened.tenants plan.terms.first_tenant
-        writer.old writer.new) }
+    ensures ok { OnOk result (Writes W.contents writer.old writer.new (TellsServer opened.bound opened.tenants)) }
+    ensures err { IsPlainServer words.entry plan → IfErr result (EndsEarly W.refuses W.contents
+        opened.bound opened.tenants plan.terms.first_tenant writer.old writer.new) }
 {
     let Ok(host) = Host::<N>::new(alloc, opened) else {
         return Err(OUT_OF_MEMORY);
     };
+    let stop_switch = match stop_switch_of(rt, plan) {
+        Ok(stop_switch) => stop_switch,
+        Err(why) => return Err(why),
+    };
     let log = EventLog::new(rt, plan.log);
-    let listener = match listen(rt, alloc, plan.address, &log, writer) {
-        Ok(listener) => listener,
-        Err(why) => return Err(unheard(why)),
+    let Some(controls) = controls_of(rt, alloc, plan, stop_switch) else {
+        return Err(OUT_OF_MEMORY);
     };
-    let server_metrics = ServerMetrics::blank(alloc);
-    let config = ServerConfig {
-        listener: &listener,
-        watch: &log,
-        admission: &Open,
-        commit_hook: &NoJournal,
-        server_metrics: &server_metrics,
-        terms: plan.terms,
+    let server_context = ServerContext {
+        rt,
+        alloc,
+        host: &host,
+        plan,
+        words,
+        log: &log,
+        controls: &controls,
+        supervisor: Supervisor::find(rt),
     };
-    if let Some(supervisor) = Supervisor::find(rt) {
-        supervisor.tell(b"READY=1\nSTATUS=clients are let in\n");
-    }
-    serve_by(rt, alloc, &config, host, writer)
+    let served = match server_context.serve(writer) {
+        Ok(served) => served,
+        Err(why) => return Err(why),
+    };
+    finish_served(alloc, host, plan.terms.first_tenant, served, writer)
 }
 
-/// Serves all connections, and writes the numbers of trails and steps after the last one. Error: the fault that ended
-/// it.
-pub fn serve_by<
-    N: Naming + Send + Sync,
-    V: Watch + Sync,
-    A: Admission + Sync,
-    K: CommitHook + Sync,
-    T: Threads + Wait + Net + Clock + Sync,
-    W: Sink,
->(
+/// The stop of a server with status pages, which takes the place of its standard input.
+fn stop_switch_of<T: System>(rt: &T, plan: Plan) -> Result<Option<StopSwitch>, ProgramFault>
+    ensures { plan.status ≡ None → is_ok result ≡ true }
+{
+    if plan.status.is_none() {
+        return Ok(None);
+    }
+    match StopSwitch::take_place(rt, plan.terms.until_input_ends) {
+        Ok(stop_switch) => Ok(Some(stop_switch)),
+        Err(_) => Err(ProgramFault::CannotWait),
+    }
+}
+
+/// What tells the server what to do. None without memory.
+fn controls_of<T: Clock>(
     rt: &T,
     alloc: Global,
-    config: &ServerConfig<'_, V, A, K>,
-    host: Host<N>,
-    writer: &mut W,
-) -> Result<(), ProgramFault>
-    requires { (0 < config.now.terms.workers) × (config.now.terms.workers ≤ 16) }
-    ensures ok { OnOk result (Writes W.contents writer.old writer.new (TellsTrails N.bound host)) }
-    ensures err { IfErr result (FailsToServe W.refuses W.contents
-        (policy (A.wants config.now.admission.now) (A.admits config.now.admission.now)) N.bound host config.now.terms.first_tenant
-        writer.old writer.new) }
-{
-    let first_tenant = config.terms.first_tenant;
-    match serve_all(rt, alloc, config, &host, &NoBackgroundTask) {
-        Ok(stubs) => finish(alloc, host, first_tenant, stubs, writer),
-        Err(error) => Err(unserved(error)),
-    }
+    plan: Plan,
+    stop_switch: Option<StopSwitch>,
+) -> Option<ServerControls> {
+    let server_metrics = server_metrics_of(rt, alloc, plan)?;
+    let renewal_board = RenewalBoard::new(rt, alloc, plan.terms.first_tenant, plan.tenants).ok()?;
+    Some(ServerControls::new(server_metrics, renewal_board, stop_switch))
 }
 
-/// The fault of a server that could not serve.
-pub(crate) fn unserved(error: ServeError) -> ProgramFault
-    ensures { result ≡ unserved_as error }
-{
-    match error {
-        ServeError::NoMemory => OUT_OF_MEMORY,
-        ServeError::NoPlace => ProgramFault::CannotWait,
-        ServeError::NoThread => ProgramFault::CannotStart,
-        ServeError::PollFailed => ProgramFault::WaitingFailed,
-        ServeError::NotKept => ProgramFault::Journal(JournalFault::Failed),
+/// The metrics of the workers. None without memory.
+fn server_metrics_of<T: Clock>(rt: &T, alloc: Global, plan: Plan) -> Option<ServerMetrics> {
+    if plan.status.is_none() {
+        return Some(ServerMetrics::blank(alloc));
     }
+    let terms = plan.terms;
+    let began = Instant::now(rt).ok();
+    ServerMetrics::new(
+        alloc,
+        terms.workers,
+        began,
+        terms.first_tenant,
+        plan.tenants,
+    )
+    .ok()
 }

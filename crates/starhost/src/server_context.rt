@@ -1,154 +1,43 @@
-//! A server that keeps its tenants: in a journal, or in files that it reads before and writes behind.
-ghost use Rattle.std.specs.Prelude.{◌≡◌, ◌++◌, ◌<◌, ◌≤◌, IfOk, OnOk};
-ghost use Rattle.sb_host.specs.Opening.{AreNames};
-ghost use Rattle.starhost.specs.Totals.{TellsServer, TellsTrails};
+//! What a server works with, and how it serves.
+ghost use Rattle.std.specs.Prelude.{◌≡◌, ◌<◌, ◌≤◌, [], IfErr, IfOk, OnOk, None, Ok, false, is_ok, true};
 ghost use Rattle.sb_monitor.specs.Listening.{TellsPort};
-ghost use Rattle.sb_backup.specs.Outputs.{Writes};
-ghost use Rattle.sb_words.specs.Within.{AreServer};
+ghost use Rattle.sb_server.specs.Policies.{anyone, policy};
+ghost use Rattle.sb_server.specs.Renewals.{AreLeft};
+ghost use Rattle.starhost.specs.Plains.{EndsPlainly, IsPlainServer, IsUnheard, ServesPlainly};
+ghost use Rattle.sb_words.specs.declared.renew_policy.RenewPolicy.TheVariants as policies;
 
 use crate::fault::ProgramFault;
-use crate::host_end::finish;
 use crate::housekeeping::{Chore, Housekeeping, LongStop, NoChore};
 use crate::part_faults::{of_backup, unheard};
-use crate::server::{OUT_OF_MEMORY, opened_by, unserved};
+use crate::server_end::{OUT_OF_MEMORY, ServerEnd, unserved, with_earlier};
 use crate::system::System;
-use crate::terms::{Plan, plan_of};
+use crate::terms::Plan;
 use sb_backup::{
     BackupError, Folder, FolderLock, FolderScripts, ScriptFiles, TenantSaver, load_folder,
 };
-use sb_host::{Host, Lending, Naming, Opened, Stub};
+use sb_host::{Renewing, Stub};
 use sb_monitor::{
-    EventLog, Pages, ServerControls, StatusPort, StopSwitch, Supervisor, listen, memory_file,
-    serve_beside, work_beside,
+    EventLog, Pages, RenewalLimits, ServerControls, StatusPort, Supervisor, TenantRenewals, listen,
+    memory_file, serve_beside, work_beside,
 };
 use sb_server::{
-    Admission, BackgroundTask, CommitHook, NoJournal, Open, ServeError, ServerConfig,
-    ServerMetrics, Terms, serve_all,
+    Admission, BackgroundTask, CommitHook, NoJournal, NoRenewals, Open, Renewals, ServeError,
+    ServerConfig, Terms, serve_all,
 };
 use sb_wire::Sink;
-use sb_words::{Paths, ServerOptions};
+use sb_words::{Origin, RenewPolicy, ServeWords};
 use std::alloc::{AllocError, Global};
-use std::marker::Brand;
 use std::net::TcpListener;
-use std::rt::Clock;
 use std::time::Instant;
 
-/// Serves connections as a server does, on tenants that a journal or files keep.
-pub(crate) fn keep<T: System + Sync, W: Sink>(
-    rt: &T,
-    alloc: Global,
-    serving: ServerOptions,
-    paths: Paths<'_>,
-    writer: &mut W,
-) -> Result<(), ProgramFault>
-    requires { AreServer serving }
-    ensures { OnOk result (Writes W.contents writer.old writer.new
-        (TellsServer serving.hosting.run.bound serving.hosting.run.tenants)) }
-{
-    let plan = plan_of(serving);
-    match opened_by(alloc, plan) {
-        Ok(opened) => keep_host::<Brand, T, W>(rt, alloc, opened, plan, paths, writer),
-        Err(_) => Err(OUT_OF_MEMORY),
-    }
-}
-
-/// Serves a host of these parts.
-fn keep_host<N: Naming + Send + Sync, T: System + Sync, W: Sink>(
-    rt: &T,
-    alloc: Global,
-    opened: Opened,
-    plan: Plan,
-    paths: Paths<'_>,
-    writer: &mut W,
-) -> Result<(), ProgramFault>
-    requires named { AreNames N.table N.tenants N.cells N.bound N.name N.parts opened }
-    requires cells { opened.cells ≡ plan.cells }
-    requires bound { plan.bound ≤ 1000 }
-    requires workers { (0 < plan.terms.workers) × (plan.terms.workers ≤ 16) }
-    ensures { OnOk result (Writes W.contents writer.old writer.new (TellsServer opened.bound opened.tenants)) }
-{
-    let Ok(host) = Host::<N>::new(alloc, opened) else {
-        return Err(OUT_OF_MEMORY);
-    };
-    let stop_switch = match stop_switch_of(rt, plan) {
-        Ok(stop_switch) => stop_switch,
-        Err(why) => return Err(why),
-    };
-    let log = EventLog::new(rt, plan.log);
-    let Some(server_metrics) = server_metrics_of(rt, alloc, plan) else {
-        return Err(OUT_OF_MEMORY);
-    };
-    let controls = ServerControls::new(server_metrics, stop_switch);
-    let server_context = ServerContext {
-        rt,
-        alloc,
-        host: &host,
-        plan,
-        paths,
-        log: &log,
-        controls: &controls,
-        supervisor: Supervisor::find(rt),
-    };
-    let served = match server_context.serve(writer) {
-        Ok(served) => served,
-        Err(why) => return Err(why),
-    };
-    finish_served(alloc, host, plan.terms.first_tenant, served, writer)
-}
-
-/// The stop of a server with status pages, which takes the place of its standard input.
-fn stop_switch_of<T: System>(rt: &T, plan: Plan) -> Result<Option<StopSwitch>, ProgramFault> {
-    if plan.status.is_none() {
-        return Ok(None);
-    }
-    match StopSwitch::take_place(rt, plan.terms.until_input_ends) {
-        Ok(stop_switch) => Ok(Some(stop_switch)),
-        Err(_) => Err(ProgramFault::CannotWait),
-    }
-}
-
-/// The metrics of the workers. None without memory.
-fn server_metrics_of<T: Clock>(rt: &T, alloc: Global, plan: Plan) -> Option<ServerMetrics> {
-    if plan.status.is_none() {
-        return Some(ServerMetrics::blank(alloc));
-    }
-    let terms = plan.terms;
-    let began = Instant::now(rt).ok();
-    ServerMetrics::new(
-        alloc,
-        terms.workers,
-        began,
-        terms.first_tenant,
-        plan.tenants,
-    )
-    .ok()
-}
-
-/// Finishes the host with the receipts of its sessions. If that succeeds and a file was not written, that is the fault.
-fn finish_served<N: Naming, W: Sink>(
-    alloc: Global,
-    host: Host<N>,
-    first_tenant: u32,
-    served: ServerEnd,
-    writer: &mut W,
-) -> Result<(), ProgramFault>
-    ensures { OnOk result (Writes W.contents writer.old writer.new (TellsTrails N.bound host)) }
-{
-    let ServerEnd { stubs, saved } = served;
-    match finish(alloc, host, first_tenant, stubs, writer) {
-        Ok(()) => saved,
-        Err(why) => Err(why),
-    }
-}
-
-/// What a server with files or a journal works with.
+/// What a server works with.
 #[derive(Drop)]
 pub(crate) struct ServerContext<'k, H, T> {
     pub(crate) rt: &'k T,
     pub(crate) alloc: Global,
     pub(crate) host: H,
     pub(crate) plan: Plan,
-    pub(crate) paths: Paths<'k>,
+    pub(crate) words: ServeWords<'k>,
     pub(crate) log: &'k EventLog<'k, T>,
     pub(crate) controls: &'k ServerControls,
     /// Who has started it, if it wants to hear of it.
@@ -164,28 +53,21 @@ pub(crate) struct Entrance<'a, 'g, A, G> {
     pub(crate) chore: &'g G,
 }
 
-/// The result of serving.
-#[derive(Drop)]
-pub(crate) struct ServerEnd {
-    /// The receipts of all sessions.
-    stubs: Vec<Stub>,
-    /// How the files were written.
-    saved: Result<(), ProgramFault>,
-}
-
-impl<'k, H: Lending + Sync, T: System + Sync> ServerContext<'k, H, T>
+impl<'k, H: Renewing + Sync, T: System + Sync> ServerContext<'k, H, T>
 where
     H::Session: Send,
 {
     /// Makes the tenants from files or a journal, and serves connections until the server stops.
-    fn serve<W: Sink>(&self, writer: &mut W) -> Result<ServerEnd, ProgramFault>
-        ensures { OnOk result (TellsPort (W.contents writer.old) (W.contents writer.new)) }
+    pub(crate) fn serve<W: Sink>(&self, writer: &mut W) -> Result<ServerEnd, ProgramFault>
+        ensures ok { OnOk result (TellsPort (W.contents writer.old) (W.contents writer.new)) }
+        ensures plain { IsPlainServer self.now.words self.now.plan
+            → EndsPlainly W.refuses W.contents (policy false anyone) writer.old writer.new result }
     {
         let _lock = match self.lock_folder() {
             Ok(lock) => lock,
             Err(why) => return Err(ProgramFault::Backup(why)),
         };
-        match self.paths.keys {
+        match self.words.keys {
             Some(path) => self.with_keys(path, writer),
             None => {
                 let gate = Entrance::<Open, NoChore> {
@@ -204,30 +86,21 @@ where
         gate: Entrance<'_, '_, A, G>,
         writer: &mut W,
     ) -> Result<ServerEnd, ProgramFault>
-        ensures { OnOk result (TellsPort (W.contents writer.old) (W.contents writer.new)) }
+        ensures ok { OnOk result (TellsPort (W.contents writer.old) (W.contents writer.new)) }
+        ensures plain { IsPlainServer self.now.words self.now.plan → EndsPlainly W.refuses W.contents
+            (policy (A.wants gate.entry.admission.now) (A.admits gate.entry.admission.now)) writer.old writer.new result }
     {
         let port = match self.status_port(gate.admission) {
             Ok(port) => port,
             Err(why) => return Err(why),
         };
-        match self.paths.journal {
-            Some(path) => self.record(path, gate, &port, writer),
-            None => self.serve_loaded(gate, &port, writer),
-        }
-    }
-
-    /// Makes the tenants from files, if that is asked for, and serves the clients of this admission.
-    fn serve_loaded<A: Admission + Sync, G: Chore, W: Sink>(
-        &self,
-        gate: Entrance<'_, '_, A, G>,
-        port: &Option<StatusPort<Pages<'_, H, A, T>>>,
-        writer: &mut W,
-    ) -> Result<ServerEnd, ProgramFault>
-        ensures { OnOk result (TellsPort (W.contents writer.old) (W.contents writer.new)) }
-    {
-        match self.beside(port, || self.prepare()) {
-            Ok(loaded) => self.serve_with(gate, &NoJournal, loaded, port, writer),
-            Err(why) => Err(ProgramFault::Backup(why)),
+        match self.words.origin {
+            Origin::Fresh => self.serve_with(gate, &NoJournal, Vec::new(self.alloc), &port, writer),
+            Origin::Folder(path) => match self.beside(&port, || self.load(path)) {
+                Ok(loaded) => self.serve_with(gate, &NoJournal, loaded, &port, writer),
+                Err(why) => Err(ProgramFault::Backup(why)),
+            },
+            Origin::Journal(journal) => self.record(journal, gate, &port, writer),
         }
     }
 
@@ -256,7 +129,10 @@ where
         port: &Option<StatusPort<Pages<'_, H, A, T>>>,
         writer: &mut W,
     ) -> Result<ServerEnd, ProgramFault>
-        ensures { OnOk result (TellsPort (W.contents writer.old) (W.contents writer.new)) }
+        ensures ok { OnOk result (TellsPort (W.contents writer.old) (W.contents writer.new)) }
+        ensures plain { IsPlainServer self.now.words self.now.plan → port.now ≡ None → loaded.items ≡ []
+            → EndsPlainly W.refuses W.contents (policy (A.wants gate.entry.admission.now) (A.admits gate.entry.admission.now))
+            writer.old writer.new result }
     {
         match self.listen(writer) {
             Ok(listener) => self.serve_at(&listener, port, gate, commit_hook, loaded),
@@ -266,7 +142,8 @@ where
 
     /// Listens at the server's port, and writes it.
     pub(crate) fn listen<W: Sink>(&self, writer: &mut W) -> Result<TcpListener, ProgramFault>
-        ensures { OnOk result (TellsPort (W.contents writer.old) (W.contents writer.new)) }
+        ensures ok { OnOk result (TellsPort (W.contents writer.old) (W.contents writer.new)) }
+        ensures err { IfErr result (IsUnheard W.refuses W.contents writer.old writer.new) }
     {
         match listen(self.rt, self.alloc, self.plan.address, self.log, writer) {
             Ok(listener) => Ok(listener),
@@ -290,7 +167,36 @@ where
         gate: Entrance<'_, '_, A, G>,
         commit_hook: &K,
         loaded: Vec<Stub>,
-    ) -> Result<ServerEnd, ProgramFault> {
+    ) -> Result<ServerEnd, ProgramFault>
+        ensures { IsPlainServer self.now.words self.now.plan → port.now ≡ None → loaded.items ≡ [] → ServesPlainly
+            (policy (A.wants gate.entry.admission.now) (A.admits gate.entry.admission.now)) result }
+    {
+        if !self.may_renew() {
+            let served = self.serve_by(listener, port, gate, commit_hook, &NoRenewals);
+            return with_earlier(loaded, served);
+        }
+        let Ok(renewals) = self.renewals(commit_hook, loaded) else {
+            return Err(OUT_OF_MEMORY);
+        };
+        let served = self.serve_by(listener, port, gate, commit_hook, &renewals);
+        match renewals.into_stubs() {
+            Ok(held) => with_earlier(held, served),
+            Err(_) => Err(OUT_OF_MEMORY),
+        }
+    }
+
+    /// Serves so, and renews tenants by these renewals.
+    fn serve_by<A: Admission + Sync, G: Chore, K: CommitHook + Sync, E: Renewals + Sync>(
+        &self,
+        listener: &TcpListener,
+        port: &Option<StatusPort<Pages<'_, H, A, T>>>,
+        gate: Entrance<'_, '_, A, G>,
+        commit_hook: &K,
+        renewals: &E,
+    ) -> Result<ServerEnd, ProgramFault>
+        ensures { self.now.words.dump_to ≡ None → port.now ≡ None → E.may_renew ≡ false → ServesPlainly
+            (policy (A.wants gate.entry.admission.now) (A.admits gate.entry.admission.now)) result }
+    {
         let Ok(saver) = self.saver() else {
             return Err(OUT_OF_MEMORY);
         };
@@ -299,6 +205,7 @@ where
             watch: self.log,
             admission: gate.admission,
             commit_hook,
+            renewals,
             server_metrics: &self.controls.server_metrics,
             terms: self.terms(),
         };
@@ -306,27 +213,30 @@ where
             chore: gate.chore,
             long_stop: self.long_stop(&saver, listener),
         };
-        let stubs = match self.serve_config(&config, port, &housekeeping) {
-            Ok(stubs) => stubs,
-            Err(error) => return Err(unserved(error)),
-        };
-        match together(loaded, stubs) {
+        match self.serve_config(&config, port, &housekeeping) {
             Ok(stubs) => Ok(ServerEnd {
                 stubs,
                 saved: self.save(&saver),
             }),
-            Err(_) => Err(OUT_OF_MEMORY),
+            Err(error) => Err(unserved(error)),
         }
     }
 
     /// Serves by this configuration, with the status port if there is one.
-    fn serve_config<A: Admission + Sync, G: BackgroundTask, K: CommitHook + Sync>(
+    fn serve_config<
+        A: Admission + Sync,
+        G: BackgroundTask,
+        K: CommitHook + Sync,
+        E: Renewals + Sync,
+    >(
         &self,
-        config: &ServerConfig<'_, EventLog<'k, T>, A, K>,
+        config: &ServerConfig<'_, EventLog<'k, T>, A, K, E>,
         port: &Option<StatusPort<Pages<'_, H, A, T>>>,
         housekeeping: &G,
     ) -> Result<Vec<Stub>, ServeError>
         requires { (0 < config.now.terms.workers) × (config.now.terms.workers ≤ 16) }
+        ensures { port.now ≡ None → IfOk result (AreLeft
+            (policy (A.wants config.now.admission.now) (A.admits config.now.admission.now)) E.may_renew) }
     {
         self.controls.let_in();
         self.tell(b"READY=1\nSTATUS=clients are let in\n");
@@ -334,6 +244,36 @@ where
             Some(port) => serve_beside(self.rt, self.alloc, config, self.host, port, housekeeping),
             None => serve_all(self.rt, self.alloc, config, self.host, housekeeping),
         }
+    }
+
+    /// True if a tenant may be renewed: some are without being asked for, or an operator can ask for one.
+    fn may_renew(&self) -> bool
+        ensures { self.now.plan.status ≡ None → self.now.plan.renew ≡ policies.Never → result ≡ false }
+    {
+        self.plan.status.is_some() || matches!(self.plan.renew, RenewPolicy::Auto)
+    }
+
+    /// Renews tenants while their connections stay open. It holds the receipts of the sessions that were closed before.
+    fn renewals<'a, K: CommitHook>(
+        &'a self,
+        commit_hook: &'a K,
+        closed: Vec<Stub>,
+    ) -> Result<TenantRenewals<'a, H, K, T>, AllocError> {
+        let limits = RenewalLimits {
+            bound: self.plan.bound,
+            is_auto: matches!(self.plan.renew, RenewPolicy::Auto),
+            tenant_memory: self.plan.tenant_memory,
+        };
+        let renewals = TenantRenewals::new(
+            self.alloc,
+            self.host,
+            commit_hook,
+            self.log,
+            &self.controls.renewal_board,
+            limits,
+        )?;
+        renewals.hold(self.rt, closed)?;
+        Ok(renewals)
     }
 
     /// The terms of the server. With a status port its input is the stop's.
@@ -353,7 +293,7 @@ where
         saver: &'s Option<TenantSaver<'k, 'k, T, EventLog<'k, T>>>,
         listener: &'s TcpListener,
     ) -> Option<LongStop<'s, 'k, 'k, H, T, EventLog<'k, T>>> {
-        if self.paths.journal.is_some() || self.plan.terms.connections > 0 {
+        if matches!(self.words.origin, Origin::Journal(_)) || self.plan.terms.connections > 0 {
             return None;
         }
         match saver {
@@ -366,7 +306,9 @@ where
     fn status_port<'a, A: Admission>(
         &'a self,
         admission: &'a A,
-    ) -> Result<Option<StatusPort<Pages<'a, H, A, T>>>, ProgramFault> {
+    ) -> Result<Option<StatusPort<Pages<'a, H, A, T>>>, ProgramFault>
+        ensures { self.now.plan.status ≡ None → result ≡ Ok None }
+    {
         let Some(address) = self.plan.status else {
             return Ok(None);
         };
@@ -388,23 +330,23 @@ where
             began: Instant::now(self.rt).ok(),
             memory: memory_file(self.rt),
             server_metrics: &self.controls.server_metrics,
+            renewal_board: &self.controls.renewal_board,
             control: self.controls,
         }
     }
 
     /// Locks the folder to which the tenants are to be written, if there is to be one.
-    fn lock_folder(&self) -> Result<Option<FolderLock>, BackupError> {
-        let Some(path) = self.paths.dump_to else {
+    fn lock_folder(&self) -> Result<Option<FolderLock>, BackupError>
+        ensures { self.now.words.dump_to ≡ None → result ≡ Ok None }
+    {
+        let Some(path) = self.words.dump_to else {
             return Ok(None);
         };
         Ok(Some(folder_at(self.plan, path).claim(self.rt, self.log)?))
     }
 
-    /// Makes the tenants from the files of a folder, if there is to be one.
-    fn prepare(&self) -> Result<Vec<Stub>, BackupError> {
-        let Some(path) = self.paths.load else {
-            return Ok(Vec::new(self.alloc));
-        };
+    /// Makes the tenants from the files of this folder.
+    fn load(&self, path: &str) -> Result<Vec<Stub>, BackupError> {
         let scripts = FolderScripts {
             rt: self.rt,
             folder: folder_at(self.plan, path),
@@ -414,8 +356,10 @@ where
     }
 
     /// What writes the tenants to their files, if that is asked for.
-    fn saver(&self) -> Result<Option<TenantSaver<'k, 'k, T, EventLog<'k, T>>>, AllocError> {
-        let Some(path) = self.paths.dump_to else {
+    fn saver(&self) -> Result<Option<TenantSaver<'k, 'k, T, EventLog<'k, T>>>, AllocError>
+        ensures { self.now.words.dump_to ≡ None → IfOk result (λ saver. saver ≡ None) }
+    {
+        let Some(path) = self.words.dump_to else {
             return Ok(None);
         };
         let files = ScriptFiles {
@@ -432,7 +376,9 @@ where
     fn save(
         &self,
         saver: &Option<TenantSaver<'k, 'k, T, EventLog<'k, T>>>,
-    ) -> Result<(), ProgramFault> {
+    ) -> Result<(), ProgramFault>
+        ensures { saver.now ≡ None → is_ok result ≡ true }
+    {
         self.tell(b"STOPPING=1\nSTATUS=the tenants are written\n");
         match saver {
             Some(saver) => of_backup(saver.save_all(self.rt, self.host)),
@@ -449,13 +395,4 @@ fn folder_at(plan: Plan, path: &str) -> Folder<'_>
         path,
         first: plan.terms.first_tenant,
     }
-}
-
-/// All receipts in one list.
-fn together(first: Vec<Stub>, mut others: Vec<Stub>) -> Result<Vec<Stub>, AllocError>
-    ensures { IfOk result (λ all. all.items ≡ first.items ++ others.items) }
-{
-    let mut all = first;
-    all.append(&mut others)?;
-    Ok(all)
 }

@@ -4,7 +4,7 @@ ghost use Rattle.starhost.specs.Terms.{AreMegabytes, AreMillis, AreTermsOf, IsHe
 ghost use Rattle.sb_words.specs.Within.{AreServer};
 
 use sb_server::Terms;
-use sb_words::{ServerOptions, Severity};
+use sb_words::{RenewPolicy, ServerOptions, Severity};
 use std::net::{IpAddr, Ipv4Addr, SocketAddr};
 use std::time::Duration;
 
@@ -23,6 +23,8 @@ pub(crate) struct Plan {
     pub(crate) log: Severity,
     /// Where the status pages are, if there are some.
     pub(crate) status: Option<SocketAddr>,
+    /// Which tenants are renewed without being asked for.
+    pub(crate) renew: RenewPolicy,
 }
 
 /// The settings that the words ask for.
@@ -39,6 +41,7 @@ pub(crate) fn plan_of(serving: ServerOptions) -> Plan
         terms: terms_of(serving),
         log: serving.log,
         status: status_of(serving),
+        renew: serving.renew,
     }
 }
 

@@ -1,7 +1,6 @@
-use Rattle.std.proofs.Common.{◌≡◌, ◌⊎◌, ℕ, List, map, inl, inr, refl, subst}
+use Rattle.std.proofs.Common.{◌≡◌, ◌⊎◌, ℕ, List, Some, None, map, inl, inr, refl, subst}
 use Rattle.sb_words.specs.Words.{AskFor, IsAsked}
-use Rattle.sb_words.specs.declared.invocation.Invocation.{Invocation}
-use Rattle.sb_words.specs.declared.invocation.Invocation.TheVariants.{Run, Load, Serve, Keep, Replay, Parse, Dump, DumpAll, Key, Record}
+use Rattle.sb_words.specs.Requests.{Request, dump, folder, fresh, journal, key, parse, replay, request_of, run, serve}
 use Rattle.starhost.specs.Reads.{Succeeds}
 use Rattle.starhost.proofs.Runs.{as_asked, asked_for, few_texts}
 use Rattle.starhost.proofs.program.command.Goals as goal
@@ -12,22 +11,21 @@ pub returns-in-Ok-For : goal.returns-in-Ok-For
 returns-in-Ok-For g c =
     let b = c.in-Ok-For in
     let words = map g.S.AsStr.text c.args.words.now in
-    let Has : Invocation → Type 0 = Succeeds g.R.Read.remaining g.W.Write.contents c.args.reader.now c.answer.new.reader c.args.writer.now c.answer.new.writer in
-    let has : (q : Invocation) → AskFor words q → c.answer.result ≡ 0 → Has q = λ q asks ok.
-    as_asked c.words_ask_once.ensures.once words Has b.field-0 b.asked q b.paths b.ensures.asked b.field-0-is asks (c.answer.ensures.succeeds ok) in
+    let Has : Request → Type 0 = Succeeds g.R.Read.remaining g.W.Write.contents c.args.reader.now c.answer.new.reader c.args.writer.now c.answer.new.writer in
+    let has : (q : Request) → AskFor words q → c.answer.result ≡ 0 → Has q = λ q asks ok.
+    as_asked c.words_ask_once.ensures.once words Has b.field-0 b.asked q b.ensures.asked b.field-0-is asks (c.answer.ensures.succeeds ok) in
     record {
-      runs = λ r. has (Run r);
-      usual = λ few. has (Run (record { tenants = 16; bound = 1000 })) (c.words_ask_once.ensures.usual words (few_texts g.S.AsStr.text c.args.words.now few));
-      serves = λ s. has (Serve s);
-      replays = λ h. has (Replay h);
-      parses = has Parse;
-      dumps = λ d. has (Dump d);
-      keeps = λ s. has (Keep s);
-      loads = λ r. has (Load r);
-      dumps_all = λ r. has (DumpAll r);
-      records = λ r. has (Record r);
-      digests = has Key;
-      asked = inl (b.asked, asked_for words b.field-0 b.asked b.paths b.ensures.asked b.field-0-is, c.answer.ensures.goes);
+      runs = λ r. has (run r fresh);
+      usual = λ few. has (run (record { tenants = 16; bound = 1000 }) fresh) (c.words_ask_once.ensures.usual words (few_texts g.S.AsStr.text c.args.words.now few));
+      loads = λ r path. has (run r (folder path));
+      records = λ r path syncs. has (run r (journal path syncs));
+      serves = λ s begins dump_to keys. has (serve s begins dump_to keys);
+      replays = λ h. has (replay h);
+      parses = has parse;
+      dumps = λ d. has (dump d None);
+      dumps_all = λ d path. has (dump d (Some path));
+      digests = has key;
+      asked = inl (request_of b.asked, asked_for words b.field-0 b.asked b.ensures.asked b.field-0-is, c.answer.ensures.goes);
     }
 
 -- ---- questions, and words that are refused

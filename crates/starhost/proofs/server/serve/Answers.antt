@@ -1,6 +1,7 @@
 use Rattle.std.proofs.Common.{inl, inr, refl, rules}
 use Rattle.sb_wire.specs.declared.fault.StreamError.TheVariants as stream
 use Rattle.sb_monitor.specs.declared.listener.ListenError.TheVariants as listen
+use Rattle.starhost.proofs.Plains.{is_plain}
 use Rattle.starhost.proofs.server.serve.Goals as goal
 
 -- the host has the numbers of the plan, and the plan those of the words
@@ -8,6 +9,12 @@ pub returns-in-Ok-clause-ok : goal.returns-in-Ok-clause-ok
 returns-in-Ok-clause-ok g c =
     rw (c.in-Ok.ensures.0, c.in-Ok.ensures.2, c.plan_of-plan.ensures.1, c.plan_of-plan.ensures.3) at c.serve_host.ensures.ok
 
+-- words of numbers alone are those of such a server
+pub returns-in-Ok-clause-err : goal.returns-in-Ok-clause-err
+returns-in-Ok-clause-err g c = λ plain.
+    rw (c.in-Ok.ensures.0, c.in-Ok.ensures.2, c.plan_of-plan.ensures.1, c.plan_of-plan.ensures.3, c.plan_of-plan.ensures.5.1)
+    at (c.serve_host.ensures.err (is_plain c.args.words c.plan_of-plan.result c.plan_of-plan.ensures plain))
+
 -- there was no memory, and nothing is written
 pub returns-in-Err-clause-err : goal.returns-in-Err-clause-err
-returns-in-Err-clause-err g c = inl (listen.Stream stream.NoMemory, refl, inr (search rules, inr refl))
+returns-in-Err-clause-err g c = λ plain. inl (listen.Stream stream.NoMemory, refl, inr (search rules, inr refl))

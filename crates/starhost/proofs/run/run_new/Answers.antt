@@ -1,6 +1,6 @@
 use Rattle.std.proofs.Common.{◌∙◌, sym}
 use Rattle.starhost.proofs.Told.{at_success, goes-fresh}
-use Rattle.starhost.proofs.program.run.Goals as goal
+use Rattle.starhost.proofs.run.run_new.Goals as goal
 
 pub returns-clause-runs : goal.returns-clause-runs
 returns-clause-runs g c = λ zero. at_success c.run_fresh-ended.result (sym c.tell_run.ensures.status ∙ zero) c.run_fresh-ended.ensures.ok
