@@ -15,6 +15,8 @@ mod events;
 #[cfg(test)]
 mod faults;
 #[cfg(test)]
+mod host_renewals;
+#[cfg(test)]
 mod hosts;
 #[cfg(test)]
 mod jobs;
@@ -28,6 +30,8 @@ mod net;
 mod pressed;
 #[cfg(test)]
 mod priority;
+#[cfg(test)]
+mod renewals;
 #[cfg(test)]
 mod rules;
 #[cfg(test)]
