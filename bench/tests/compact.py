@@ -188,7 +188,7 @@ def full_trail(compact, room):
     write_journal(old, TENANTS, [(0, 0, line) for line in lines])
 
     def asked(file):
-        server = journaled(compact.program, file, "--sync", "never", tenants=TENANTS)
+        server = journaled(compact.program, file, "--sync", "never", "--renew", "never", tenants=TENANTS)
         client = Client(server, 0, 0, ["begin", "commit"] * 10)
         client.told = []
         client.start()

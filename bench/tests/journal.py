@@ -376,7 +376,7 @@ def share_bounds_file(program, room):
     """With --tenant-memory a tenant writes no more than its share, also over several starts; others go on."""
     file, share, long = os.path.join(room, "share"), 1 << 20, "select " + "x" * 4000
     for start in range(3):
-        server = journaled(program, file, "--sync", "never", "--tenant-memory", "1")
+        server = journaled(program, file, "--sync", "never", "--tenant-memory", "1", "--renew", "never")
         greedy, other = Client(server, 0, start, [long] * 400), Client(server, 1, start, ["begin", "rollback"])
         greedy.run()
         size = os.path.getsize(file)

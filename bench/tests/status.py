@@ -6,10 +6,11 @@
 PROGRAM is crates/starhost/out/starhost where no word is given. Told in one line each: the pages of a small tenant and the
 samples, byte by byte as bench/tests/status_pages has them (numbers that vary are written as N); what Prometheus' `promtool` says
 of the samples, where it is installed; what is counted; how old a session's last line is, and the server; slow lines; a page
-while a step runs; a session that is ended; requests of other sites, and those that name another machine; hostile requests, and
-silent connections while a client of the server goes on; half requests beside which others are answered; whom keys let in. The first thing that isn't as it is to be ends this with status 1; what has a bound on time is tried up to
-three times, and each miss is told. With --write the files of bench/tests/status_pages are written anew, and with --shots a
-headless Chromium draws the pages to that folder.
+while a step runs; a session that is ended; a tenant that is renewed, and one that renews itself; requests of other sites, and
+those that name another machine; hostile requests, and silent connections while a client of the server goes on; half requests
+beside which others are answered; whom keys let in. The first thing that isn't as it is to be ends this with status 1; what has
+a bound on time is tried up to three times, and each miss is told. With --write the files of bench/tests/status_pages are written
+anew, and with --shots a headless Chromium draws the pages to that folder.
 """
 
 import argparse
@@ -435,12 +436,69 @@ def ends(program):
     print("an end: its connection is closed, its transaction is gone, and others go on")
 
 
+def renewals(program):
+    """A tenant that is renewed: its connections stay open, and one with a transaction is waited for."""
+    server = Server(program)
+    one, own, reply = server.client("1 3")
+    two, other, reply = server.client("1 4")
+    run(own, "create table t (a int)\nbegin\ninsert into t values (1)\ncommit")
+    path = "/tenants/1/renew"
+    expect("GET of a renewal", server.get(path)[0], 405)
+    for missing in ("/tenants/16/renew", "/tenants/renew", "/tenants/1/renew/", "/tenants/1x/renew", "/tenants/1/sessions/3/renew"):
+        expect(missing, server.get(missing, method="POST")[0] in (404, 405), True)
+    volume = 'filgwesha_tenant_volume{tenant="1"}'
+    expect("a tenant's first volume", server.sample(volume), 0)
+    expect("a renewal", server.get(path, method="POST"), (202, b"told\n"))
+    until("its next volume", lambda: server.sample(volume) == 1)
+    until("it is told", lambda: "renewed: tenant 1: volume 0 ends" in server.told())
+    expect("a transaction", say(own, "begin"), "ok\n")
+    for _ in range(2):
+        expect("a renewal beside a transaction", server.get(path, method="POST")[0], 202)
+    until("it waits", lambda: "not renewed yet: tenant 1: a session has a transaction" in server.told())
+    expect("its volume", server.sample(volume), 1)
+    expect("a row that is there", say(own, "select * from t"), "rows 1\n")
+    expect("its end", say(own, "rollback").startswith("ok"), True)
+    until("its third volume", lambda: server.sample(volume) == 2)
+    soon("renewals", lambda: server.sample("filgwesha_renewals_total"), 2)
+    expect("renewals that failed", server.sample("filgwesha_renewals_failed_total"), 0)
+    expect("its page", re.search(rb"<dt>volume</dt><dd>2</dd></div>\n<div><dt>renewed</dt><dd>\d+ s ago</dd>", server.get("/tenants/1")[1]) is not None, True)
+    for stream, file in ((one, own), (two, other)):
+        expect("its session", say(file, "begin"), "ok\n")
+        expect("its row", say(file, "select * from t"), "rows 1\n")
+        expect("its end", say(file, "rollback").startswith("ok"), True)
+        stream.close()
+        file.close()
+    server.stop()
+    print("renewals: two of them, one of which waited for a transaction, closed no connection")
+
+
+def room(program):
+    """A tenant whose replies take its share of memory several times over is renewed by itself, and no line of it is
+    refused."""
+    server = Server(program, "--renew", "auto", "--tenant-memory", "1")
+    stream, file, reply = server.client("1 0")
+    rows = [", ".join(f"({at + i}, 'twenty-two bytes of it')" for i in range(50)) for at in range(0, 500, 50)]
+    run(file, "create table t (a int, b text)\nbegin\n" + "".join(f"insert into t values {values}\n" for values in rows) + "commit")
+    taken = 0
+    for _ in range(300):
+        for line, reply in [("begin", "ok"), ("select * from t", "rows 500"), ("rollback", "ok")]:
+            expect(line, say(file, line), f"{reply}\n")
+        taken = max(taken, server.sample('filgwesha_tenant_bytes{tenant="1"}'))
+    volume = server.sample('filgwesha_tenant_volume{tenant="1"}')
+    expect("renewals by themselves", volume >= 3, True)
+    expect("bytes within the share", taken <= 1.2 * 2**20, True)
+    stream.close()
+    file.close()
+    server.stop()
+    print(f"room: 300 replies in {volume + 1:.0f} volumes, none refused, in {taken / 2**20:.2f} of a share of 1 MB")
+
+
 HERE = ["127.0.0.1", "127.0.0.1:{port}", "localhost", "localhost:1", "localhost:", "[::1]", "[::1]:{port}"]
 ELSEWHERE = ["", "LOCALHOST", "rebound.example", "rebound.example:{port}", "127.0.0.1.rebound.example", "localhost.", "localhost:80x", "[::1", "x[::1]", "0.0.0.0:{port}"]
 # what a browser tells of who asks
 OTHERS = ["Origin: http://other.example", "Origin: null", "Origin: http://127.0.0.1:1", "Sec-Fetch-Site: cross-site", "Sec-Fetch-Site: same-site", "sec-fetch-site: x"]
 OWN = ["Sec-Fetch-Site: none", "Sec-Fetch-Site: same-origin", "SEC-FETCH-SITE: none"]
-EACH = [("/", "GET"), ("/metrics", "GET"), ("/tenants/0", "HEAD"), ("/tenants/0/dump", "GET"), ("/tenants/0/sessions/0/end", "POST"), ("/ready", "GET"), ("/stop", "POST"), ("/nowhere", "GET")]
+EACH = [("/", "GET"), ("/metrics", "GET"), ("/tenants/0", "HEAD"), ("/tenants/0/dump", "GET"), ("/tenants/0/sessions/0/end", "POST"), ("/tenants/0/renew", "POST"), ("/ready", "GET"), ("/stop", "POST"), ("/nowhere", "GET")]
 
 
 def strangers(program):
@@ -571,6 +629,11 @@ def keys(program):
         expect("an end with another key", server.get(page, method="POST", user="1", key="key-of-1")[0], 401)
         expect("an end as status", server.get(page, method="POST", user="status", key="key-of-status")[0], 401)
         expect("an end of a session that isn't open", server.get(page, method="POST", user="0", key="key-of-0")[0], 404)
+        page = "/tenants/0/renew"
+        expect("a renewal without a key", server.get(page, method="POST")[0], 401)
+        expect("a renewal with another key", server.get(page, method="POST", user="1", key="key-of-1")[0], 401)
+        expect("a renewal as status", server.get(page, method="POST", user="status", key="key-of-status")[0], 401)
+        expect("a renewal with its key", server.get(page, method="POST", user="0", key="key-of-0")[0], 202)
         expect("a tenant without keys", server.get("/tenants/5", user="5", key="key-of-0")[0], 401)
         told = server.raw(b"GET / HTTP/1.1\r\nAuthorization: Basic !!!\r\n\r\n")
         expect("no base64", (told[9:12], b'WWW-Authenticate: Basic realm="filgwesha"' in told), (b"401", True))
@@ -598,6 +661,8 @@ def main():
         ages(asked.program)
         trial(slow, asked.program)
         ends(asked.program)
+        renewals(asked.program)
+        room(asked.program)
         strangers(asked.program)
         tried(half_requests, [(asked.program, most) for most in (1, 1, 2)], Server.kill_all)
         trial(hostile, asked.program)

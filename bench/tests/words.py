@@ -29,8 +29,8 @@ ALLOWED = (
     b"always, second or never with --journal; of dump --tenant 0 to 255, or --into a folder; of serve and replay "
     b"--cells 1 to 16, --workers 1 to 16; of serve --port 0 to 65535, --connections 0 to 1000000, --idle 0 to 86400, "
     b"--idle-transaction 0 to 86400, --first-tenant 0 to 999999000, --tenant-memory 0 to 1048576, --log error, "
-    b"warning or info, --slow 0 to 86400000, --until-input-ends, --dump-to a folder, --keys a file, --status 0 to 65535; "
-    b"--help, --version\n"
+    b"warning or info, --slow 0 to 86400000, --renew auto or never, --until-input-ends, --dump-to a folder, --keys a file, "
+    b"--status 0 to 65535; --help, --version\n"
 )
 
 # A number past its range, and the words in front of it.
@@ -53,6 +53,7 @@ PAST = [
     ("--log warn", "serve"),
     ("--status 65536", "serve"),
     ("--slow 86400001", "serve"),
+    ("--renew always", "serve --journal x"),
     ("--tenants 4294967297", "run"),
     ("--tenants 01x", "run"),
     ("--tenant 256", "dump"),
@@ -74,6 +75,8 @@ ELSEWHERE = [
     ("--tenant-memory 1", "run"),
     ("--status 0", "run"),
     ("--slow 1", "replay"),
+    ("--renew auto", "run"),
+    ("--renew never", "replay"),
     ("--log info", "run"),
     ("--tenants 2", "parse"),
     ("--cells 2", "parse"),
@@ -139,6 +142,8 @@ SERVED_AT_THE_ENDS = [
     "serve --first-tenant 999999000 --tenant-memory 1048576 --log error",
     "serve --first-tenant 0 --tenant-memory 0 --log info --slow 0",
     "serve --slow 86400000",
+    "serve --renew auto",
+    "serve --renew never --status 0",
 ]
 
 # A session whose lines have three refusals.
