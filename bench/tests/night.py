@@ -3,11 +3,12 @@
 
     python3 -m bench.tests.night [PROGRAM]
 
-PROGRAM is crates/starhost/out/starhost where no word is given. Told in one line each: `POST /stop` stops a server as the end of
-its input does, and only whom the keys call status; `GET /ready` says that a server isn't ready while it plays its journal, and
-that it is behind that; systemd's socket, by a path and by a name without a file, hears when clients are let in and when the
-server stops; a stop while the rules of one tenant run long writes all others at once, and a kill then leaves their files; and
-the tenant itself is written where its rules have ended. The first thing that isn't as it is to be ends this with status 1.
+PROGRAM is crates/starhost/out/starhost where no word is given. Told in one line each: `POST /stop` stops a server as
+the end of its input does, and only whom the keys call status; `GET /ready` says that a server isn't ready while it
+plays its journal, and that it is behind that, and each question that was begun before is answered; systemd's socket, by
+a path and by a name without a file, hears when clients are let in and when the server stops; a stop while the rules of
+one tenant run long writes all others at once, and a kill then leaves their files; and the tenant itself is written
+where its rules have ended. The first thing that isn't as it is to be ends this with status 1.
 """
 
 import contextlib
@@ -20,7 +21,7 @@ import sys
 import tempfile
 import time
 
-from bench.harness import BUILT, PATIENCE, expect, free_port, need, until
+from bench.harness import BUILT, PATIENCE, connect, expect, free_port, need, read_all, until
 from bench.harness import Server as Plain
 from bench.tests.status import PAIRS, WIDE, Server, run, say
 
@@ -67,16 +68,43 @@ def stops_by_key(program):
     print("stop by key: only whom the keys call status stops a server; whether it is ready it tells anybody")
 
 
-def readiness_of(port):
-    """What a server tells of its readiness, if it tells anything."""
+NOT_YET, READY = b"503\r\n\r\nnot yet\n", b"200\r\n\r\nready\n"
+# so many questions whether a server is ready are half sent at any time
+HALVES = 3
+
+
+def half_asked(port):
+    """A connection that has sent half of the question whether the server is ready."""
+    stream = connect(port)
+    stream.sendall(b"GET /ready HTTP/1.1\r\n")
+    return stream
+
+
+def answered(stream):
+    """What the server answers where the other half is sent."""
+    with stream:
+        stream.sendall(b"Host: localhost\r\n\r\n")
+        answer = read_all(stream)
+    need(answer, "a request that was begun is answered")
+    return answer[9:12] + answer[answer.index(b"\r\n\r\n"):]
+
+
+def answers(port):
+    """True if somebody answers at the port."""
     with contextlib.suppress(OSError):
-        with socket.create_connection(("127.0.0.1", port), timeout=PATIENCE) as stream:
-            stream.sendall(b"GET /ready HTTP/1.1\r\nHost: localhost\r\n\r\n")
-            answer = b""
-            while piece := stream.recv(4096):
-                answer += piece
-            return answer[9:12] + answer[answer.index(b"\r\n\r\n"):]
-    return None
+        return bool(answered(half_asked(port)))
+    return False
+
+
+def answers_until_ready(port):
+    """What a server answers until it is ready, where each question is begun some time before it is ended."""
+    asked, seen = [], []
+    while READY not in seen:
+        asked.append(half_asked(port))
+        if len(asked) > HALVES:
+            seen.append(answered(asked.pop(0)))
+        time.sleep(0.1)
+    return seen + [answered(stream) for stream in asked]
 
 
 def readies(program):
@@ -96,14 +124,14 @@ def readies(program):
         port = free_port()
         begun = ["serve", "--until-input-ends", "--tenants", "16", "--status", str(port), *words]
         with subprocess.Popen([program, *begun], stdin=subprocess.PIPE, stdout=subprocess.PIPE, stderr=subprocess.DEVNULL, text=True) as started:
-            until("it answers", lambda: readiness_of(port))
-            before = readiness_of(port)
+            until("it answers", lambda: answers(port))
+            seen = answers_until_ready(port)
             need(started.stdout.readline().startswith("listening "), "it listens")
-            until("it is ready", lambda: readiness_of(port) == b"200\r\n\r\nready\n")
             ended = started.communicate(timeout=PATIENCE)[0]
-        expect("a server that plays a journal", before, b"503\r\n\r\nnot yet\n")
+        expect("a server that plays a journal", seen[0], NOT_YET)
+        expect("what is answered until it is ready", seen, seen.count(NOT_YET) * [NOT_YET] + seen.count(READY) * [READY])
         expect("its end", (started.returncode, ended.startswith("trails 16 steps ")), (0, True))
-    print(f"ready: 503 while {lines} slow lines of a journal are played, 200 behind them")
+    print(f"ready: 503 while {lines} slow lines of a journal are played, 200 behind them, and no question is lost between")
 
 
 def notices(program):

@@ -17,12 +17,12 @@ use sb_server::{
 };
 use sb_status::StatisticsCache;
 use sb_words::{Log, Severity};
-use std::alloc::Global;
+use std::alloc::{AllocError, Global};
 use std::io::{self, ErrorKind};
 use std::net::{Net, SocketAddr, TcpListener, TcpStream};
 use std::os::fd::AsRawFd as _;
 use std::rt::Clock;
-use std::sync::Wait;
+use std::sync::{Mutex, Wait};
 use std::sync::atomic::{AtomicBool, Ordering};
 use std::thread::{self, Threads};
 use std::time::{Duration, Instant};
@@ -87,6 +87,8 @@ pub struct StatusPort<P> {
     bell: Bell,
     /// Its thread is to end.
     is_over: AtomicBool,
+    /// The connections that a paused run left open. The next run goes on with them.
+    left: Mutex<Option<Crowd>>,
 }
 
 impl<P: Drop> StatusPort<P> {
@@ -111,6 +113,7 @@ impl<P: Drop> StatusPort<P> {
                     listener,
                     bell,
                     is_over: AtomicBool::new(false),
+                    left: Mutex::new(None),
                 })
             }
             Err(error) => {
@@ -133,11 +136,12 @@ impl<
         let Ok(mut cache) = self.pages.cache() else {
             return;
         };
-        let Ok(mut crowd) = Crowd::new(self.pages.alloc) else {
+        let Ok(mut crowd) = self.go_on_with() else {
             return;
         };
         for _turn in rt.forever() {
             if self.is_over.swap(false, Ordering::SeqCst) {
+                *self.left.lock(self.pages.rt) = Some(crowd);
                 return;
             }
             if self.wait(&crowd) {
@@ -185,6 +189,14 @@ impl<
     /// The time, if the system tells it.
     fn now(&self) -> Option<Instant> {
         Instant::now(self.pages.rt).ok()
+    }
+
+    /// The connections that the run before left open, or none. Error: out of memory.
+    fn go_on_with(&self) -> Result<Crowd, AllocError> {
+        match self.left.lock(self.pages.rt).take() {
+            Some(crowd) => Ok(crowd),
+            None => Crowd::new(self.pages.alloc),
+        }
     }
 
     /// Accepts some of the connections that wait.
