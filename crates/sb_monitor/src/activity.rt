@@ -3,6 +3,7 @@ ghost use Rattle.std.specs.Prelude.{IfOk};
 ghost use Rattle.sb_status.specs.Pages.{IsPage};
 ghost use Rattle.sb_status.specs.declared.text.Escaping.TheVariants as escaping;
 
+use crate::refusal_names::refusal_name;
 use crate::renewal_board::RenewalBoard;
 use sb_server::{Cause, Count, LIMITS, ServerMetrics, SlowLine};
 use sb_status::{
@@ -166,6 +167,7 @@ fn add_refusals(
         if count > 0 {
             refusals.push(Refused {
                 number: u64::from(number),
+                name: refusal_name(number),
                 count,
             })?;
         }

@@ -12,6 +12,7 @@ mod listener;
 mod memory;
 mod page_access;
 mod pages;
+mod refusal_names;
 mod renewal_board;
 mod renewal_notes;
 mod room_reading;

@@ -22,8 +22,8 @@ use std::io::{self, ErrorKind};
 use std::net::{Net, SocketAddr, TcpListener, TcpStream};
 use std::os::fd::AsRawFd as _;
 use std::rt::Clock;
-use std::sync::{Mutex, Wait};
 use std::sync::atomic::{AtomicBool, Ordering};
+use std::sync::{Mutex, Wait};
 use std::thread::{self, Threads};
 use std::time::{Duration, Instant};
 

@@ -119,20 +119,14 @@ pub(crate) fn write_refusals(page: &mut Page<'_>, refusals: &[Refused]) -> Resul
         return Ok(());
     }
     page.mark(Markup::RefusalsHead)?;
-    write_refused(page, ROW, refusals)?;
-    page.mark(Markup::TableEnd)
-}
-
-/// Writes the number of each refusal, and how often it was given.
-pub(crate) fn write_refused(
-    page: &mut Page<'_>,
-    marks: [Markup; 3],
-    refusals: &[Refused],
-) -> Result<(), AllocError> {
     for refused in refusals {
-        page.pair(marks, Fragment::Number(refused.number), refused.count)?;
+        page.count(Markup::Row, refused.number)?;
+        page.mark(Markup::Cell)?;
+        page.text(refused.name.as_bytes())?;
+        page.count(Markup::NumberCell, refused.count)?;
+        page.mark(Markup::RowEnd)?;
     }
-    Ok(())
+    page.mark(Markup::TableEnd)
 }
 
 /// Writes the lines that took longest, if there are some.

@@ -1,6 +1,6 @@
 //! What a server has counted, as samples of Prometheus.
 
-use crate::activity::{causes, write_refused, write_seconds};
+use crate::activity::{causes, write_seconds};
 use crate::fragment::Fragment;
 use crate::markup::Markup;
 use crate::page::Page;
@@ -17,9 +17,6 @@ const FAMILIES: [(Markup, Markup); 4] = [
 
 /// The marks of the sample of a cause.
 const CAUSE: [Markup; 3] = [Markup::RollbacksSample, Markup::SampleEnd, Markup::NewLine];
-
-/// The marks of the sample of a refusal.
-const REFUSAL: [Markup; 3] = [Markup::RefusalsSample, Markup::SampleEnd, Markup::NewLine];
 
 /// Writes all that was counted.
 pub(crate) fn write_activity(
@@ -54,7 +51,14 @@ fn write_refusals(page: &mut Page<'_>, refusals: &[Refused]) -> Result<(), Alloc
         return Ok(());
     }
     page.mark(Markup::RefusalsFamily)?;
-    write_refused(page, REFUSAL, refusals)
+    for refused in refusals {
+        page.count(Markup::RefusalsSample, refused.number)?;
+        page.mark(Markup::NameLabel)?;
+        page.text(refused.name.as_bytes())?;
+        page.count(Markup::SampleEnd, refused.count)?;
+        page.mark(Markup::NewLine)?;
+    }
+    Ok(())
 }
 
 /// Writes how many lines took no longer than each limit.

@@ -6,6 +6,7 @@ ghost use Rattle.sb_status.specs.declared.text.Escaping.TheVariants as escaping;
 use crate::activity::{write_refusals, write_rollbacks, write_slowest, write_sums, write_workers};
 use crate::markup::Markup;
 use crate::page::Page;
+use crate::size::write_size;
 use crate::text::Escaping;
 use crate::view::{Activity, HostNumbers, HostView, TenantNumbers};
 use std::alloc::{AllocError, Global};
@@ -15,8 +16,6 @@ const MINUTE: u64 = 60;
 const HOUR: u64 = 60 * MINUTE;
 
 const DAY: u64 = 24 * HOUR;
-
-const KILOBYTE: u64 = 1024;
 
 /// All that is shown of a server, as a page. Error: out of memory.
 pub fn host_page(alloc: Global, view: HostView<'_>) -> Result<Vec<u8>, AllocError>
@@ -48,8 +47,8 @@ fn write_facts<'v>(
     page.text(host.version.as_bytes())?;
     write_uptime(page, host.uptime)?;
     if let Some(bytes) = host.memory {
-        page.count(Markup::FactMemory, bytes / KILOBYTE)?;
-        page.mark(Markup::Kilobytes)?;
+        page.mark(Markup::FactMemory)?;
+        write_size(page, bytes)?;
     }
     page.counts(&[
         (Markup::FactTenants, host.tenants),
@@ -82,10 +81,10 @@ fn write_tenant(page: &mut Page<'_>, tenant: TenantNumbers) -> Result<(), AllocE
     page.count(Markup::TenantLink, tenant.tenant)?;
     page.count(Markup::LinkText, tenant.tenant)?;
     page.mark(Markup::LinkEnd)?;
+    page.cells(&[tenant.steps, tenant.room])?;
+    page.mark(Markup::NumberCell)?;
+    write_size(page, tenant.bytes)?;
     page.cells(&[
-        tenant.steps,
-        tenant.room,
-        tenant.bytes,
         tenant.tables,
         tenant.rows,
         tenant.rules,

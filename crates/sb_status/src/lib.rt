@@ -23,6 +23,7 @@ mod response;
 mod route;
 mod rule_rows;
 mod samples;
+mod size;
 mod statistics_cache;
 mod tenant;
 mod tenant_copy;

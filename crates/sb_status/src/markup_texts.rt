@@ -90,7 +90,13 @@ pub(crate) const SECONDS: &str = " s";
 
 pub(crate) const FACT_MEMORY: &str = "</dd></div>\n<div><dt>memory</dt><dd>";
 
+pub(crate) const BYTES: &str = " B";
+
 pub(crate) const KILOBYTES: &str = " KB";
+
+pub(crate) const MEGABYTES: &str = " MB";
+
+pub(crate) const GIGABYTES: &str = " GB";
 
 pub(crate) const FACT_TENANTS: &str = "</dd></div>\n<div><dt>tenants at most</dt><dd>";
 
@@ -107,7 +113,7 @@ pub(crate) const TENANTS_HEAD: &str = "\
 <h2>Tenants</h2>
 <p class=\"hint\">Those of which a session was ever opened. <a href=\"/metrics\">The same for Prometheus</a>.</p>
 <div class=\"wide\"><table>
-<thead><tr><th>tenant</th><th class=\"n\">steps</th><th class=\"n\">room in the trail</th><th class=\"n\">bytes</th><th class=\"n\">tables</th><th class=\"n\">rows</th><th class=\"n\">rules</th><th class=\"n\">sessions open</th><th class=\"n\">in a transaction</th><th class=\"n\">changes in the log</th><th></th></tr></thead>
+<thead><tr><th>tenant</th><th class=\"n\">steps</th><th class=\"n\">room in the trail</th><th class=\"n\">memory</th><th class=\"n\">tables</th><th class=\"n\">rows</th><th class=\"n\">rules</th><th class=\"n\">sessions open</th><th class=\"n\">in a transaction</th><th class=\"n\">changes in the log</th><th></th></tr></thead>
 <tbody>
 ";
 
@@ -128,7 +134,7 @@ pub(crate) const FACT_STEPS: &str = "\
 
 pub(crate) const FACT_ROOM: &str = "</dd></div>\n<div><dt>room in the trail</dt><dd>";
 
-pub(crate) const FACT_BYTES: &str = "</dd></div>\n<div><dt>bytes</dt><dd>";
+pub(crate) const FACT_BYTES: &str = "</dd></div>\n<div><dt>bytes of memory</dt><dd>";
 
 pub(crate) const FACT_ROWS: &str = "</dd></div>\n<div><dt>rows</dt><dd>";
 
@@ -416,7 +422,7 @@ pub(crate) const CAUSES_HEAD: &str = "\
 pub(crate) const REFUSALS_HEAD: &str = "\
 <h2>Refusals</h2>
 <div class=\"wide\"><table>
-<thead><tr><th>number</th><th class=\"n\">refusals</th></tr></thead>
+<thead><tr><th>number</th><th>name</th><th class=\"n\">refusals</th></tr></thead>
 <tbody>
 ";
 
@@ -465,6 +471,8 @@ pub(crate) const REFUSALS_FAMILY: &str = "\
 ";
 
 pub(crate) const REFUSALS_SAMPLE: &str = "filgwesha_refusals_total{number=\"";
+
+pub(crate) const NAME_LABEL: &str = "\",name=\"";
 
 pub(crate) const WORKER_TAKEN_FAMILY: &str = "\
 # HELP filgwesha_worker_connections_total Connections that a worker has taken; the door has those that open no session.

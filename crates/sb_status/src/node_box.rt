@@ -16,6 +16,9 @@ pub(crate) const LETTER: u64 = 8;
 /// How far an arrow goes straight on before it bends.
 const BEND: u64 = 40;
 
+/// How far an arrow of the order goes above one of a trigger.
+const RISE: u64 = 8;
+
 /// Where a node's box is.
 #[derive(Clone, Copy)]
 pub(crate) struct NodeBox {
@@ -92,6 +95,17 @@ impl Curve {
             return Curve::sideways(from, to, rise);
         }
         Curve::backward(from, to)
+    }
+
+    /// The same way a little above, so that it is seen beside another one.
+    pub(crate) fn raised(self) -> Curve {
+        let above = |point: (u64, u64)| (point.0, point.1.saturating_sub(RISE));
+        Curve {
+            from: above(self.from),
+            first: above(self.first),
+            second: above(self.second),
+            to: above(self.to),
+        }
     }
 
     /// To a layer behind.

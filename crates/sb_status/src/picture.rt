@@ -105,9 +105,10 @@ impl<'d, 'v> Drawing<'d, 'v> {
             NodeBox::of(*start, self.width),
             NodeBox::of(*end, self.width),
         );
-        let mark = if is_order {
-            Markup::OrderArrow
-        } else if self.layout.reaches(to, from) {
+        if is_order {
+            return self.curve(Markup::OrderArrow, curve.raised());
+        }
+        let mark = if self.layout.reaches(to, from) {
             Markup::CycleArrow
         } else {
             Markup::Arrow

@@ -61,6 +61,8 @@ pub struct WorkerNumbers {
 #[derive(Clone, Copy)]
 pub struct Refused {
     pub number: u64,
+    /// Its name in a reply.
+    pub name: &'static str,
     pub count: u64,
 }
 

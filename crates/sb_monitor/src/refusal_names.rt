@@ -1,0 +1,42 @@
+//! The names of refusals by their numbers.
+
+/// The name of the refusal of this number in a reply, or nothing for a number that no refusal has.
+pub(crate) fn refusal_name(number: u8) -> &'static str {
+    match number {
+        10 => "Syntax",
+        11 => "TooLong",
+        12 => "BadLine",
+        13 => "NoTenant",
+        14 => "NoSession",
+        15 => "BadKey",
+        20 => "NoTable",
+        21 => "TableExists",
+        22 => "NoColumn",
+        23 => "BadType",
+        24 => "Ambiguous",
+        25 => "WrongCount",
+        26 => "BadTransition",
+        30 => "Overflow",
+        31 => "TooBig",
+        32 => "TooManyRows",
+        40 => "Locked",
+        41 => "InTransaction",
+        42 => "NoTransaction",
+        43 => "Busy",
+        44 => "NotOpen",
+        45 => "AlreadyOpen",
+        50 => "NoRule",
+        51 => "RuleExists",
+        52 => "Cycle",
+        53 => "TooManyRules",
+        54 => "NoRuleset",
+        55 => "RulesetExists",
+        56 => "TooManyRulesets",
+        57 => "TableInUse",
+        58 => "TooManyTables",
+        90 => "TrailFull",
+        91 => "NoMemory",
+        92 => "NotBegun",
+        _ => "",
+    }
+}
