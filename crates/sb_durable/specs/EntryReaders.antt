@@ -1,5 +1,5 @@
 -- Machine: what is noted of a trail while its cell's lock is held.
-use Rattle.std.specs.Prelude.{◌≡◌, ℕ, ◌≤◌, Bool, true, false, List, length, map, take, drop, codes, cond, Some, None, unwrap_or}
+use Rattle.std.specs.Prelude.{◌≡◌, ℕ, ◌^◌, ◌<◌, ◌≤◌, Bool, true, false, List, length, map, take, drop, codes, cond, Some, None, unwrap_or}
 use Rattle.sb_durable.specs.Records.{Entry as Record}
 use Rattle.sb_tenant.specs.declared.reply.Entry.{Entry}
 use Rattle.sb_tenant.specs.Trail.{is_no_memory}
@@ -26,7 +26,7 @@ IsFront entries notes = (length notes ≤ length entries) × (notes ≡ map note
 
 -- as far as was reached
 abbrev pub NotesAll : List Entry → List PendingEntry → ReadReach → Type 0
-NotesAll entries notes Nowhere = Unit {0}
+NotesAll entries notes Nowhere = ⊥
 NotesAll entries notes NoMemory = Unit {0}
 NotesAll entries notes Part = IsFront entries notes
 NotesAll entries notes End = IsFront entries notes × (length notes ≡ length entries)
@@ -42,9 +42,15 @@ NotesBehind at own notes NoMemory = Unit {0}
 NotesBehind at own notes Part = IsPlaceIn own at × IsFront (drop at.entries own.trail) notes
 NotesBehind at own notes End = IsPlaceIn own at × IsFront (drop at.entries own.trail) notes × (length notes ≡ length (drop at.entries own.trail))
 
+-- there is no place in the tenant's volume where its recording goes on
+abbrev pub IsApart : RecordedReach → Tenant → Type 0
+IsApart recorded own = (at : RecordedReach) (is_renewed : Bool) → at.entries < 2 ^ 32 → IsPlaceIn own at → GoesOn recorded at is_renewed → ⊥
+
 -- from where the recording of the tenant goes on
 abbrev pub Reads : EntryReader → Tenant → EntryReader → Type 0
-Reads old own new = IsLegal own × GoesOn old.start.reach new.start.reach new.start.is_renewed × NotesBehind new.start.reach own new.list.items new.reach
+Reads old own new =
+    IsLegal own × GoesOn old.start.reach new.start.reach new.start.is_renewed × NotesBehind new.start.reach own new.list.items new.reach
+    × (new.reach ≡ Nowhere → IsApart old.start.reach own)
 
 -- whether all was staged that there is
 abbrev pub IsStaged : ReadReach → Bool → Type 0

@@ -1,9 +1,9 @@
 -- Promise: what the steps of trails are recorded as, and what is recorded of them.
-use Rattle.std.specs.Prelude.{◌≡◌, ◌⊎◌, ℕ, ◌+◌, ◌≤◌, Bool, true, false, List, [], ◌∷◌, ◌++◌, Some, length, map, take, drop, slice_get, slice_set, codes, cond, Contains}
+use Rattle.std.specs.Prelude.{◌≡◌, ◌⊎◌, ℕ, ◌+◌, ◌^◌, ◌<◌, ◌≤◌, Bool, true, false, List, [], ◌∷◌, ◌++◌, Some, length, map, take, drop, slice_get, slice_set, codes, cond, Contains}
 use Rattle.sb_durable.specs.Records.{Entry as Record}
 use Rattle.sb_durable.specs.declared.recorded_reach.RecordedReach.{RecordedReach}
 use Rattle.sb_tenant.specs.Limits.{session_count}
-use Rattle.sb_tenant.specs.Volumes.{first_volume, following}
+use Rattle.sb_tenant.specs.Volumes.{HasFollowing, first_volume, following}
 use Rattle.sb_tenant.specs.declared.reply.Entry.{Entry}
 use Rattle.sb_tenant.specs.State.{opening}
 use Rattle.sb_tenant.specs.Trail.{is_no_memory, IsTrail, state_of, state_after}
@@ -47,6 +47,10 @@ first_reach = record { volume = first_volume; entries = 0 }
 -- Its volume ends there. The next one is recorded as far as its opening goes, which no session made.
 abbrev pub renewed : RecordedReach → ℕ → RecordedReach
 renewed reach opening = record { volume = following reach.volume reach.entries opening; entries = opening }
+
+-- there is one behind it as long as its counts are numbers of so many bits
+abbrev pub HasRenewed : RecordedReach → ℕ → Type 0
+HasRenewed reach opening = (opening < 2 ^ 32) × HasFollowing reach.volume reach.entries
 
 -- Where recording goes on: at the same place, or behind a renewal. The volume that it finds then is the one that follows, and counts as many entries before it as are recorded. So all of them are, and there was no other renewal.
 abbrev pub GoesOn : RecordedReach → RecordedReach → Bool → Type 0

@@ -1,6 +1,7 @@
 //! How far the volumes of a tenant's life are recorded.
-ghost use Rattle.std.specs.Prelude.{◌≡◌, IfSome};
-ghost use Rattle.sb_durable.specs.Recording.{GoesOn, first_reach, renewed};
+ghost use Rattle.std.specs.Prelude.{◌≡◌, ◌^◌, ◌<◌, Bool, IfNone, IfSome, SomeIff};
+ghost use Rattle.sb_durable.specs.Recording.{GoesOn, HasRenewed, first_reach, renewed};
+ghost use Rattle.sb_durable.specs.declared.recorded_reach.RecordedReach.{RecordedReach as ItsReach};
 
 use sb_tenant::Volume;
 
@@ -29,7 +30,7 @@ impl RecordedReach {
 
     /// Behind the opening of the next volume, where this one ends here. None where a count has no room.
     pub(crate) fn renewed(self, opening: u64) -> Option<RecordedReach>
-        ensures { IfSome result (λ next. next ≡ renewed self opening) }
+        ensures { SomeIff result (HasRenewed self opening) (renewed self opening) }
     {
         let entries = u32::try_from(opening).ok()?;
         let made = u64::from(self.entries).saturating_sub(self.volume.opening);
@@ -53,7 +54,8 @@ pub(crate) struct RecordingStart {
 /// Where the recording of a tenant goes on in this volume of its life. None if it isn't the next one of a volume that ends
 /// where it is recorded: then it was renewed before all of its steps were recorded.
 pub(crate) fn start_in(recorded: RecordedReach, volume: Volume) -> Option<RecordingStart>
-    ensures { IfSome result (λ start. GoesOn recorded start.reach start.is_renewed × (start.reach.volume ≡ volume)) }
+    ensures found { IfSome result (λ start. GoesOn recorded start.reach start.is_renewed × (start.reach.volume ≡ volume)) }
+    ensures none { IfNone result ((at : ItsReach) (is_renewed : Bool) → at.entries < 2 ^ 32 → at.volume ≡ volume → GoesOn recorded at is_renewed → ⊥) }
 {
     if volume == recorded.volume {
         return Some(RecordingStart {
