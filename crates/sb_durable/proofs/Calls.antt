@@ -11,7 +11,9 @@ use Rattle.sb_durable.specs.Records.{Entry as Record}
 use Rattle.sb_backup.specs.Renewals.{Renewed}
 use Rattle.sb_durable.specs.Recording.{first_reach, renewal_of, renewed}
 use Rattle.sb_durable.specs.declared.recorded_reach.RecordedReach.{RecordedReach}
-use Rattle.sb_durable.specs.Replays.{AreClosed, Becomes, Begins, IsClosed, LeavesPlayed, MakesStep, Playing, PlaysAll, PlaysLine, PlaysRenewal, Stays, changed, none_open, playing_of, receipts_in}
+use Rattle.sb_durable.specs.declared.replay.PlayFault.{PlayFault}
+use Rattle.sb_durable.specs.declared.replay.PlayFault.TheVariants as fault
+use Rattle.sb_durable.specs.Replays.{AreClosed, Becomes, Begins, IsClosed, LeavesPlayed, MakesStep, Playing, PlaysAll, PlaysLine, PlaysRenewal, RefusesRenewal, IsUnrenewed, Stays, changed, none_open, playing_of, receipts_in}
 use Rattle.sb_durable.specs.RecordedTrails.{HasEach}
 
 -- ---- an element that is changed
@@ -84,6 +86,28 @@ module _ {S : Type 0} (seen : S → Session) (sessions : List (Option S)) (stubs
   -- no session of its tenant is open
   pub all_closed : ((s : ℕ) → s < 8 → slice_get sessions (8 * r.tenant + s) ≡ Some None) → (s : ℕ) → s < 8 → slice_get (map (option_map seen) sessions) (8 * r.tenant + s) ≡ Some None
   all_closed none s below = slice_get-map (option_map seen) sessions (8 * r.tenant + s) ∙ ap (option_map (option_map seen)) (none s below)
+
+  some_open : ((s : ℕ) × (s < 8) × ((own : S) × (slice_get sessions (8 * r.tenant + s) ≡ Some (Some own)))) → (s : ℕ) × (s < 8) × ((own : Session) × (slice_get (map (option_map seen) sessions) (8 * r.tenant + s) ≡ Some (Some own)))
+  some_open (s, below, (own, there)) = (s, below, (seen own, slice_get-map (option_map seen) sessions (8 * r.tenant + s) ∙ ap (option_map (option_map seen)) there))
+
+  -- why its tenant isn't renewed
+  pub refused_open : r ≡ renewal_of r.tenant → ((s : ℕ) × (s < 8) × ((own : S) × (slice_get sessions (8 * r.tenant + s) ≡ Some (Some own)))) → RefusesRenewal (playing_of seen sessions stubs reaches) r fault.NotClosed
+  refused_open is one = (is, some_open one)
+
+  pub refused_full : r ≡ renewal_of r.tenant → ((s : ℕ) → s < 8 → slice_get sessions (8 * r.tenant + s) ≡ Some None) → RefusesRenewal (playing_of seen sessions stubs reaches) r fault.TrailFull
+  refused_full is none = (is, all_closed none)
+
+  pub refused_by : (why : PlayFault) → r ≡ renewal_of r.tenant → ((s : ℕ) → s < 8 → slice_get sessions (8 * r.tenant + s) ≡ Some None) → IsUnrenewed why → RefusesRenewal (playing_of seen sessions stubs reaches) r why
+  refused_by (fault.NotRenewed why) is none un = (is, all_closed none)
+  refused_by fault.TrailFull is none un = (is, all_closed none)
+  refused_by (fault.Journal why) is none un = absurd un
+  refused_by fault.NoRecord is none un = absurd un
+  refused_by fault.NoTenant is none un = absurd un
+  refused_by fault.NoSession is none un = absurd un
+  refused_by fault.NotOpen is none un = absurd un
+  refused_by (fault.Refused why) is none un = absurd un
+  refused_by fault.NoMemory is none un = absurd un
+  refused_by fault.NotClosed is none un = absurd un
 
   -- what its opening left is in the place of what its sessions left
   pub renews : (counted : List RecordedReach) (before after : Vec Stub Global) → r ≡ renewal_of r.tenant → ((s : ℕ) → s < 8 → slice_get sessions (8 * r.tenant + s) ≡ Some None) → r.tenant < length stubs → before ≡ get_or stubs r.tenant before

@@ -12,6 +12,8 @@ use Rattle.sb_desk.specs.declared.stub.Stub.{Stub}
 use Rattle.sb_durable.specs.Records.{Entry as Record}
 use Rattle.sb_durable.specs.Recording.{first_reach, renewal_of, renewed}
 use Rattle.sb_durable.specs.declared.recorded_reach.RecordedReach.{RecordedReach}
+use Rattle.sb_durable.specs.declared.replay.PlayFault.{PlayFault}
+use Rattle.sb_durable.specs.declared.replay.PlayFault.TheVariants as fault
 
 -- one record after another
 abbrev pub PlaysAll : {S : Type 0} → (S → Record → S → Type 0) → S → List Record → S → Type 0
@@ -44,6 +46,12 @@ changed change (suc n) (x ∷ xs) = x ∷ changed change n xs
 abbrev pub receipts_in : List Stub → ℕ
 receipts_in stubs = sum_by (λ s. length s.receipts.items) stubs
 
+-- a renewal that was asked for isn't done, or its receipts can't be counted
+abbrev pub IsUnrenewed : PlayFault → Type 0
+IsUnrenewed (fault.NotRenewed why) = Unit {0}
+IsUnrenewed fault.TrailFull = Unit {0}
+IsUnrenewed other = ⊥
+
 -- where the session of a record stands among those of all tenants
 abbrev pub place_of : Record → ℕ
 place_of r = session_count * r.tenant + r.session
@@ -57,6 +65,23 @@ MakesStep old line number new =
 abbrev pub Stays : Session → Option Session → Option Stub → Type 0
 Stays own still None = (own.ended ≡ false) × (still ≡ Some own)
 Stays own still (Some stub) = (own.ended ≡ true) × (still ≡ None) × LeavesStub own stub
+
+module _ (old : Playing) (r : Record) where
+  -- of its tenant no session is open
+  abbrev pub NoneIsOpen : Type 0
+  NoneIsOpen = (s : ℕ) → s < session_count → slice_get old.sessions (session_count * r.tenant + s) ≡ Some None
+
+  -- or one is
+  abbrev pub SomeIsOpen : Type 0
+  SomeIsOpen = (s : ℕ) × (s < session_count) × ((own : Session) × (slice_get old.sessions (session_count * r.tenant + s) ≡ Some (Some own)))
+
+  -- why a record of no session isn't played: it is no renewal, a session is open, the tenant isn't renewed, or a count has no room
+  abbrev pub RefusesRenewal : PlayFault → Type 0
+  RefusesRenewal fault.NoSession = r ≡ renewal_of r.tenant → ⊥
+  RefusesRenewal fault.NotClosed = (r ≡ renewal_of r.tenant) × SomeIsOpen
+  RefusesRenewal (fault.NotRenewed why) = (r ≡ renewal_of r.tenant) × NoneIsOpen
+  RefusesRenewal fault.TrailFull = (r ≡ renewal_of r.tenant) × NoneIsOpen
+  RefusesRenewal other = ⊥
 
 module _ (old : Playing) (r : Record) (new : Playing) where
   -- with these at the record's place, so many steps of its tenant's trail, and this behind what its others left
@@ -90,7 +115,7 @@ module _ (old : Playing) (r : Record) (new : Playing) where
   -- A tenant without an open session was renewed: one in a state that is alike, and not the same, took its place (`Renewed`). What its opening left is in the place of what its sessions had left, and it is played as far as the opening goes.
   abbrev pub PlaysRenewal : Type 0
   PlaysRenewal =
-      (r ≡ renewal_of r.tenant) × ((s : ℕ) → s < session_count → slice_get old.sessions (session_count * r.tenant + s) ≡ Some None)
+      (r ≡ renewal_of r.tenant) × NoneIsOpen old r
       × ((left opening : List Stub) × (slice_get old.stubs r.tenant ≡ Some left) × Renewed r.tenant left opening
       × (new ≡ record {
         sessions = old.sessions;

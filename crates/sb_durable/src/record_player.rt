@@ -1,8 +1,9 @@
 //! Plays records: each is a call of a host, or the renewal of a tenant.
-ghost use Rattle.std.specs.Prelude.{◌≡◌, ◌<◌, ◌≤◌, ◌*◌, ◌+◌, ◌++◌, ℕ, List, [], length, map, flat_map, replicate, false, option_map, option_to_list, slice_get, slice_set, IfOk, IfSome, IsFalse, IsTrue, None, OnOk, Some};
+ghost use Rattle.std.specs.Prelude.{◌≡◌, ◌<◌, ◌≤◌, ◌*◌, ◌+◌, ◌++◌, ◌^◌, ℕ, List, [], length, map, flat_map, replicate, false, option_map, option_to_list, slice_get, slice_set, IfErr, IfOk, SomeIff, IsFalse, IsTrue, None, OnOk, Some};
 ghost use Rattle.sb_backup.specs.Renewals.{Renewed};
-ghost use Rattle.sb_durable.specs.Replays.{AreClosed, Becomes, Begins, IsClosed, MakesStep, PlaysLine, PlaysRenewal, Stays, changed, none_open, playing_of, receipts_in};
-ghost use Rattle.sb_durable.specs.Recording.{first_reach, renewed};
+ghost use Rattle.sb_durable.specs.Replays.{AreClosed, Becomes, Begins, IsClosed, MakesStep, PlaysLine, IsUnrenewed, PlaysRenewal, RefusesRenewal, Stays, changed, none_open, playing_of, receipts_in};
+ghost use Rattle.sb_durable.specs.Recording.{HasRenewed, first_reach, renewed};
+ghost use Rattle.sb_durable.specs.declared.recorded_reach.RecordedReach.{RecordedReach as ItsReach};
 ghost use Rattle.sb_durable.specs.Records.{entry_of};
 ghost use Rattle.sb_desk.specs.Calls.{Session as ItsSession, shown};
 ghost use Rattle.sb_desk.specs.Receipts.{newcomer};
@@ -100,9 +101,11 @@ impl<H: Renewing> Player<H> {
     /// Renews the tenant of a record: no session of it may be open.
     fn renew<T: Wait>(&mut self, rt: &T, line: Record) -> Result<(), PlayFault>
         requires { line.tenant < length self.old.reaches.items }
-        ensures { OnOk result (PlaysRenewal
+        ensures renews { OnOk result (PlaysRenewal
             (playing_of H.Session.seen self.old.sessions.items self.old.stubs.items self.old.reaches.items) (entry_of line.entry)
             (playing_of H.Session.seen self.new.sessions.items self.new.stubs.items self.new.reaches.items)) }
+        ensures refused { IfErr result (RefusesRenewal
+            (playing_of H.Session.seen self.old.sessions.items self.old.stubs.items self.old.reaches.items) (entry_of line.entry)) }
     {
         let tenant = line.tenant as usize;
         if !is_renewal(line) {
@@ -112,10 +115,12 @@ impl<H: Renewing> Player<H> {
             return Err(PlayFault::NotClosed);
         }
         let stubs = &mut self.stubs[tenant];
-        let opening = renew_by(rt, self.alloc, self.host, line.tenant, self.bound, stubs)?;
-        match pass_opening(&mut self.reaches, tenant, opening) {
-            true => Ok(()),
-            false => Err(PlayFault::TrailFull),
+        match renew_by(rt, self.alloc, self.host, line.tenant, self.bound, stubs) {
+            Ok(opening) => match pass_opening(&mut self.reaches, tenant, opening) {
+                true => Ok(()),
+                false => Err(PlayFault::TrailFull),
+            },
+            Err(why) => Err(why),
         }
     }
 
@@ -260,6 +265,7 @@ fn count_step(reaches: &mut Vec<RecordedReach>, tenant: usize, number: u32)
 fn pass_opening(reaches: &mut Vec<RecordedReach>, tenant: usize, opening: u64) -> bool
     requires { tenant < length reaches.old.items }
     ensures passed { IsTrue result → reaches.new.items ≡ changed (λ reach. renewed reach opening) tenant reaches.old.items }
+    ensures refused { IsFalse result → (reach : ItsReach) → slice_get reaches.old.items tenant ≡ Some reach → HasRenewed reach opening → ⊥ }
     ensures len { length reaches.new.items ≡ length reaches.old.items }
 {
     match reaches[tenant].renewed(opening) {
@@ -273,7 +279,7 @@ fn pass_opening(reaches: &mut Vec<RecordedReach>, tenant: usize, opening: u64) -
 
 /// How many receipts these stubs have. None where a count has no room.
 fn count_receipts(stubs: &[Stub]) -> Option<u64>
-    ensures { IfSome result (λ count. count ≡ receipts_in stubs.now) }
+    ensures { SomeIff result (receipts_in stubs.now < 2 ^ 64) (receipts_in stubs.now) }
 {
     let mut count: u64 = 0;
     for stub in stubs {
@@ -285,7 +291,8 @@ fn count_receipts(stubs: &[Stub]) -> Option<u64>
 /// True if a session of this tenant is open.
 fn is_any_open<S>(sessions: &[Option<S>], tenant: usize) -> bool
     requires { 8 * tenant + 8 ≤ length sessions.now }
-    ensures { IsFalse result → (s : ℕ) → s < 8 → slice_get sessions.now (8 * tenant + s) ≡ Some None }
+    ensures none { IsFalse result → (s : ℕ) → s < 8 → slice_get sessions.now (8 * tenant + s) ≡ Some None }
+    ensures one { IsTrue result → (s : ℕ) × (s < 8) × ((own : S) × (slice_get sessions.now (8 * tenant + s) ≡ Some (Some own))) }
 {
     for session in 0..SESSION_LIMIT {
         if sessions[SESSION_LIMIT * tenant + session].is_some() {
@@ -306,7 +313,8 @@ fn renew_by<H: Renewing, T: Wait>(
     stubs: &mut Vec<Stub>,
 ) -> Result<u64, PlayFault>
     requires { bound ≤ 1000 }
-    ensures { IfOk result (λ count. Renewed tenant stubs.old.items stubs.new.items × (count ≡ receipts_in stubs.new.items)) }
+    ensures renews { IfOk result (λ count. Renewed tenant stubs.old.items stubs.new.items × (count ≡ receipts_in stubs.new.items)) }
+    ensures refused { IfErr result IsUnrenewed }
 {
     let left = mem::replace(stubs, Vec::new(alloc));
     match renew_tenant(rt, alloc, host, tenant, bound, left) {

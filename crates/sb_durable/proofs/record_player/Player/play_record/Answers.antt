@@ -8,7 +8,7 @@ pub returns-then-line-ge-SESSION_LIMIT : goal.returns-then-line-ge-SESSION_LIMIT
 returns-then-line-ge-SESSION_LIMIT g c =
     let was = c.args.self.now in
     on_ok_weaker c.renew.result
-    (renewed_on g.H.Session.Calling.seen was.sessions.items was.stubs.items was.reaches.items (entry_of c.args.line) _ (omega (arith, c.if-tenant-len.false, c.len.ensures))) c.renew.ensures
+    (renewed_on g.H.Session.Calling.seen was.sessions.items was.stubs.items was.reaches.items (entry_of c.args.line) _ (omega (arith, c.if-tenant-len.false, c.len.ensures))) c.renew.ensures.renews
 
 pub returns-in-Ok : goal.returns-in-Ok
 returns-in-Ok g c =
