@@ -1,4 +1,5 @@
-/* Laid under a program (LD_PRELOAD), this library refuses requests for memory, as a system that has none would.
+/* Laid under a program (LD_PRELOAD), this library refuses requests for memory and threads, as a system that has none
+   would.
 
    REFUSED=5   the fifth request is refused, and no other; without it, none
    UNTIL=9     with REFUSED: and those behind it up to the ninth
@@ -6,6 +7,7 @@
                goes on without. What a process writes is told at its end, through the descriptor 7
    MARKED=1    all requests are refused between two calls of sched_yield; the first one begins
    PIECES=7    a read of standard input gives at most 7 bytes
+   THREADS=2   the program may start two threads, and no more; without it, any number
 
    A request is a call of malloc, calloc, realloc or one of those for aligned memory, on any thread. When the program
    ends, a last line on standard error says how many there were, how many were refused, and how many marks there were.
@@ -14,7 +16,9 @@
    each process its request (0: none was refused), how it ended (the status that a wait gives), whether the request was
    met, and how many bytes it wrote on standard output and on standard error, then these bytes. */
 #define _GNU_SOURCE
+#include <dlfcn.h>
 #include <errno.h>
+#include <pthread.h>
 #include <stdatomic.h>
 #include <stddef.h>
 #include <stdio.h>
@@ -37,6 +41,9 @@ static int has_marks;
 static int each;          /* the descriptor, or 0 */
 static int is_child;
 static atomic_ulong requests, refusals, marks;
+static int has_threads;   /* only so many may be started */
+static atomic_long threads;
+static int (*start)(pthread_t *, const pthread_attr_t *, void *(*)(void *), void *);
 
 /* What a process has written, and how far it has read. */
 struct bytes {
@@ -59,6 +66,9 @@ __attribute__((constructor)) static void begin(void) {
     each = (int)number("EACH");
     has_marks = number("MARKED") != 0;
     piece = number("PIECES");
+    has_threads = getenv("THREADS") != 0;
+    atomic_store(&threads, (long)number("THREADS"));
+    start = dlsym(RTLD_NEXT, "pthread_create");
     on_exit(end, 0);
     atomic_store(&requests, 0);
 }
@@ -156,6 +166,11 @@ int posix_memalign(void **to, size_t by, size_t size) {
     if (!block) return ENOMEM;
     *to = block;
     return 0;
+}
+
+int pthread_create(pthread_t *to, const pthread_attr_t *how, void *(*work)(void *), void *with) {
+    if (has_threads && atomic_fetch_sub(&threads, 1) <= 0) return EAGAIN;
+    return start(to, how, work, with);
 }
 
 /* The mark: nothing else of the programs that are run with MARKED calls it. */

@@ -1,25 +1,30 @@
 #!/usr/bin/env python3
-"""A server that lacks memory lives on, and only whoever asks is refused.
+"""A server that lacks memory lives on, and only whoever asks is refused. One that lacks threads ends.
 
     python3 -m bench.tests.starved_server [PROGRAM] [--many N]
 
-PROGRAM is crates/starhost/out/starhost where no word is given. Three trials, each told in one line:
+PROGRAM is crates/starhost/out/starhost where no word is given. Four trials, each told in one line:
 
 - each of N requests for memory (200, evenly spread) of a server is refused in turn while six clients are at work: it
   answers afterwards, ends well with status 0, and at most the connection whose request it was is closed, or the line is
   answered 91 or 92;
 - all requests from the Nth on are refused for a while: the same, and who comes afterwards is served;
 - a greedy tenant under a limit of the process's memory (`ulimit -v`): the others' sessions stay, and with
-  --tenant-memory they are not even answered 91 or 92.
+  --tenant-memory they are not even answered 91 or 92;
+- a server gets each number of its threads and no more: it ends within seconds and tells why, whatever else it does
+  while it serves (`--keys`, `--dump-to`); the plain one serves where it lacks one thread.
 
 It needs `cc`, which compiles refuse.c of bench/harness.
 """
 
 import argparse
+import hashlib
+import os
+import subprocess
 import tempfile
 import time
 
-from bench.harness import BUILT, Client, Closed, Server, library, need
+from bench.harness import BUILT, Client, Closed, Server, fail, library, need
 
 SCRIPT = [
     "create table t (a int, b text)", "create rule r on t when inserted then update t set a = a + 1 where a < 3", "begin",
@@ -28,6 +33,8 @@ SCRIPT = [
 # how long something may take on a busy machine, in seconds
 PATIENCE = 120
 SHORT = ("no 91 NoMemory", "no 92 NotBegun")
+# those of a server with four workers
+THREADS = 5
 
 
 def starved(program, *words, refuses=None, room=None, **refused):
@@ -158,6 +165,36 @@ def greedy(program):
         print(f"a greedy tenant under a cap{' and --tenant-memory' if words else ''}: the server lives, another tenant lacked memory {lacks} times")
 
 
+def end_of(server, what):
+    """How a server ends by itself."""
+    try:
+        return server.end(PATIENCE)
+    except subprocess.TimeoutExpired:
+        server.kill()
+        fail(f"{what}: it hangs")
+
+
+def few_threads(program, refuses, room):
+    """Servers that get some of their threads, all at once, since each waits for its threads for some seconds."""
+    keys = f"{room}/keys"
+    with open(keys, "w") as file:
+        file.write(f"0 {hashlib.sha256(b'key').hexdigest()}\n")
+    servers = []
+    for threads in range(THREADS + 1):
+        files = f"{room}/files{threads}"
+        os.mkdir(files)
+        kinds = {"plain": [], "keys": ["--keys", keys], "files": ["--dump-to", files]}
+        servers += [(kind, threads, starved(program, *words, refuses=refuses, THREADS=threads)) for kind, words in kinds.items()]
+    for kind, threads, server in servers:
+        what = f"{kind}, {threads} of {THREADS} threads"
+        status, last, log = end_of(server, what)
+        if threads == THREADS or (kind, threads) == ("plain", THREADS - 1):
+            need(status == 0 and last.startswith("trails 16 steps"), f"{what}: status {status}: {log[-300:]}")
+        else:
+            need(status == 1 and "fault: cannot start a thread\n" in log, f"{what}: status {status}: {log[-300:]}")
+    print(f"{len(servers)} servers with some of their threads: each serves, or ends and tells why")
+
+
 def main():
     words = argparse.ArgumentParser()
     words.add_argument("program", nargs="?", default=BUILT)
@@ -168,6 +205,7 @@ def main():
         requests = count_requests(words.program, refuses)
         one_by_one(words.program, refuses, requests, words.many)
         for_a_while(words.program, refuses, requests)
+        few_threads(words.program, refuses, room)
     greedy(words.program)
 
 

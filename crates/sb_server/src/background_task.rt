@@ -14,10 +14,21 @@ use std::time::Duration;
 /// The period of a background task, in milliseconds.
 const PERIOD: u64 = 1_000;
 
-/// How many jobs still run. A background task waits for their end.
+/// A background task waits for the first job for so many periods.
+const LOOKS: usize = 10;
+
+/// More than the jobs of a server. The count of those that have begun is at least this where they begin too late.
+const TOO_LATE: usize = 1 << 32;
+
+/// How many jobs have begun, and how many still run. A background task waits for their end. Where a thread can't be
+/// started, its job waits for the end of the background task.
 #[derive(Drop)]
 pub struct ShutdownSignal {
+    jobs: usize,
+    begun: AtomicUsize,
     left: AtomicUsize,
+    /// How many periods the background task has waited.
+    looks: AtomicUsize,
     parker: Parker,
 }
 
@@ -25,30 +36,66 @@ impl ShutdownSignal {
     /// A signal for this number of jobs.
     pub(crate) fn new(jobs: usize) -> ShutdownSignal {
         ShutdownSignal {
+            jobs,
+            begun: AtomicUsize::new(0),
             left: AtomicUsize::new(jobs),
+            looks: AtomicUsize::new(0),
             parker: Parker::new(),
         }
     }
 
+    /// Notes that a job begins.
+    fn arrive(&self) {
+        self.begun.fetch_add(1, Ordering::SeqCst);
+    }
+
+    /// True if all jobs have begun in time.
+    pub(crate) fn are_all_here(&self) -> bool {
+        self.begun.load(Ordering::SeqCst) == self.jobs
+    }
+
+    /// True if no job had begun when the background task gave them up.
+    pub(crate) fn is_too_late(&self) -> bool {
+        self.begun.load(Ordering::SeqCst) >= TOO_LATE
+    }
+
     /// Notes that a job has ended.
     fn leave(&self) {
-        if self.left.fetch_sub(1, Ordering::SeqCst) <= 1 {
+        self.left.fetch_sub(1, Ordering::SeqCst);
+        if !self.goes_on() {
             self.parker.unpark();
         }
     }
 
-    /// Waits at most a period. True if a job still runs.
+    /// Waits at most a period. False if no job runs any more, or if one lacks its thread.
     pub fn lasts<R: Wait>(&self, rt: &R) -> bool {
-        if self.left.load(Ordering::SeqCst) > 0 {
+        if self.goes_on() {
             self.parker.park_timeout(rt, Duration::from_millis(PERIOD));
         }
-        self.left.load(Ordering::SeqCst) > 0
+        self.note_look();
+        self.goes_on()
+    }
+
+    /// Gives the jobs up if none has begun for too long. Those that begin later know it.
+    fn note_look(&self) {
+        if self.looks.fetch_add(1, Ordering::SeqCst) >= LOOKS {
+            let _or_one_has_begun = self
+                .begun
+                .compare_exchange(0, TOO_LATE, Ordering::SeqCst, Ordering::SeqCst);
+        }
+    }
+
+    /// True if all jobs run, or may still begin. Jobs wait for each other before they serve, so where one ends and
+    /// another hasn't begun, that one lacks its thread.
+    fn goes_on(&self) -> bool {
+        let left = self.left.load(Ordering::SeqCst);
+        left > 0 && (self.are_all_here() || (left == self.jobs && !self.is_too_late()))
     }
 }
 
 /// What the thread that started a server does while other threads serve.
 pub trait BackgroundTask {
-    /// Runs until the server has ended.
+    /// Runs until the server has ended, or lacks a thread: as long as the signal lasts.
     fn run<R: Wait>(&self, rt: &R, over: &ShutdownSignal);
 }
 
@@ -87,6 +134,7 @@ pub(crate) fn run_beside<
             requires { IsSync R.row × IsSync W.row }
             ensures { W.does job result }
         {
+            over.arrive();
             let done = work.work(rt, job);
             over.leave();
             done

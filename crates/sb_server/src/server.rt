@@ -29,7 +29,7 @@ use std::marker::Brand;
 use std::net::{Net, TcpListener};
 use std::rt::Clock;
 use std::sync::Wait;
-use std::sync::atomic::{AtomicBool, AtomicUsize, Ordering};
+use std::sync::atomic::{AtomicBool, Ordering};
 use std::thread::Threads;
 use std::time::{Duration, Instant};
 
@@ -104,8 +104,8 @@ pub(crate) struct Serving<'s, H: Hosting, V, D, K, E, C> {
     pub(crate) mailboxes: Vec<Mailbox>,
     /// The waker of the accept thread.
     door: Waker,
-    /// How many threads run.
-    here: AtomicUsize,
+    /// Which threads run.
+    over: &'s ShutdownSignal,
     is_door_closed: AtomicBool,
     stopping: AtomicBool,
     lacks_thread: AtomicBool,
@@ -143,16 +143,18 @@ impl<'s, H: Hosting, V, D, K, E, C> Serving<'s, H, V, D, K, E, C> {
         }
     }
 
-    /// Tells that one more thread runs.
+    /// Tells that one more thread runs. The service ends if it comes too late.
     pub(crate) fn arrive(&self) {
-        if self.here.fetch_add(1, Ordering::SeqCst) == self.mailboxes.len() {
+        if self.over.is_too_late() {
+            self.lack_thread();
+        } else if self.are_all_here() {
             self.wake_all();
         }
     }
 
     /// True if all threads run: the workers and the accept thread.
     pub(crate) fn are_all_here(&self) -> bool {
-        self.here.load(Ordering::SeqCst) > self.mailboxes.len()
+        self.over.are_all_here()
     }
 
     pub(crate) fn is_door_closed(&self) -> bool {
@@ -422,6 +424,7 @@ where
         terms.workers,
         &mut mailboxes,
     )?;
+    let over = ShutdownSignal::new(setups.len());
     let serving = Serving {
         alloc,
         host,
@@ -436,14 +439,13 @@ where
         terms,
         mailboxes,
         door: waker,
-        here: AtomicUsize::new(0),
+        over: &over,
         is_door_closed: AtomicBool::new(false),
         stopping: AtomicBool::new(false),
         lacks_thread: AtomicBool::new(false),
         has_failed: AtomicBool::new(false),
         has_lost: AtomicBool::new(false),
     };
-    let over = ShutdownSignal::new(setups.len());
     let parts = run_beside(rt, alloc, setups, &serving, background_task, &over);
     all_stubs(alloc, serving.failure(), parts)
 }
