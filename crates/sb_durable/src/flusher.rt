@@ -1,19 +1,13 @@
-//! A file that is brought to the disk once a second.
+//! A file that is synced now and then.
 
 use crate::log_lines::tell_not_recorded;
 use sb_words::Log;
 use std::fs::{self, File};
 use std::io;
 use std::rt::Files;
-use std::sync::Wait;
 use std::sync::atomic::{AtomicBool, Ordering};
-use std::thread::Parker;
-use std::time::Duration;
 
-/// The time between two syncs, in seconds.
-const PERIOD: u64 = 1;
-
-/// Syncs a file once a second.
+/// Syncs a file where something was written since the last sync.
 #[derive(Drop)]
 pub struct Flusher<'k, O> {
     file: File,
@@ -21,9 +15,6 @@ pub struct Flusher<'k, O> {
     /// Something was written since the last sync.
     is_behind: AtomicBool,
     has_failed: AtomicBool,
-    /// Nothing is written any more.
-    is_over: AtomicBool,
-    parker: Parker,
 }
 
 impl<'k, O: Log> Flusher<'k, O> {
@@ -38,8 +29,6 @@ impl<'k, O: Log> Flusher<'k, O> {
             log,
             is_behind: AtomicBool::new(true),
             has_failed: AtomicBool::new(false),
-            is_over: AtomicBool::new(false),
-            parker: Parker::new(),
         })
     }
 
@@ -53,25 +42,11 @@ impl<'k, O: Log> Flusher<'k, O> {
         self.has_failed.load(Ordering::SeqCst)
     }
 
-    /// Ends the flusher after a last sync.
-    pub fn end(&self) {
-        self.is_over.store(true, Ordering::SeqCst);
-        self.parker.unpark();
-    }
-
-    /// Syncs the file once a second until it is ended or a sync fails.
-    pub fn run<R: Wait>(&self, rt: &R) {
-        for _ in rt.forever() {
-            self.parker.park_timeout(rt, Duration::from_secs(PERIOD));
-            let is_last = self.is_over.load(Ordering::SeqCst);
-            if !self.flush() || is_last {
-                return;
-            }
-        }
-    }
-
-    /// Syncs the file. False if that fails, which is logged.
+    /// Syncs the file if it is behind. False if this or an earlier sync has failed, which is logged.
     pub fn flush(&self) -> bool {
+        if self.has_failed() {
+            return false;
+        }
         if !self.is_behind.swap(false, Ordering::SeqCst) {
             return true;
         }

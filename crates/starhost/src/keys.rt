@@ -3,40 +3,13 @@ ghost use Rattle.std.specs.Prelude.{◌≡◌, OnOk};
 ghost use Rattle.sb_monitor.specs.Listening.{TellsPort};
 
 use crate::fault::ProgramFault;
-use crate::housekeeping::Chore;
 use crate::part_faults::unread;
 use crate::server_context::{Entrance, ServerContext};
 use crate::server_end::ServerEnd;
 use crate::system::System;
 use sb_host::Renewing;
-use sb_keys::{
-    AnyFiles, KeyFile, KeyFiles, KeyList, KeySource, KeyWatch, Look, keys_at, tell_no_keys,
-};
+use sb_keys::{AnyFiles, KeyFile, KeyFiles, KeyList, KeySource, KeyWatch, keys_at, tell_no_keys};
 use sb_wire::Sink;
-use sb_words::Log;
-use std::sync::Wait;
-
-/// Reads the list of keys again where its file changes, while the server runs.
-#[derive(Drop)]
-struct KeyTask<'p, 'l, 'k, L: KeyFiles, S, O> {
-    watch: KeyWatch<'p, 'l, 'k, L, S, O>,
-}
-
-impl<'p, 'l, 'k, L: KeyFiles, S: KeySource<L>, O: Log> Chore for KeyTask<'p, 'l, 'k, L, S, O> {
-    type Seen = Look;
-
-    fn is_idle(&self) -> bool {
-        false
-    }
-
-    fn first(&self) -> Look {
-        self.watch.first()
-    }
-
-    fn look<R: Wait>(&self, rt: &R, last: Look) -> Look {
-        self.watch.look(rt, last)
-    }
-}
 
 impl<'k, H: Renewing + Sync, T: System + Sync> ServerContext<'k, H, T>
 where
@@ -72,12 +45,10 @@ where
             }
         };
         let list = KeyList::<L>::new(keys);
-        let task = KeyTask {
-            watch: KeyWatch::new(self.alloc, source, path, stamp, &list, self.log),
-        };
+        let watch = KeyWatch::new(self.alloc, source, path, stamp, &list, self.log);
         let gate = Entrance {
             admission: &list,
-            chore: &task,
+            chore: &watch,
         };
         self.admit(gate, writer)
     }

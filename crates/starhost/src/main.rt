@@ -3,7 +3,6 @@
 
 mod fault;
 mod host_end;
-mod housekeeping;
 mod journaled_server;
 mod keys;
 mod parse;

@@ -7,7 +7,6 @@ ghost use Rattle.starhost.specs.Plains.{EndsPlainly, IsPlainServer, IsUnheard, S
 ghost use Rattle.sb_words.specs.declared.renew_policy.RenewPolicy.TheVariants as policies;
 
 use crate::fault::ProgramFault;
-use crate::housekeeping::{Chore, Housekeeping, LongStop, NoChore};
 use crate::part_faults::{of_backup, unheard};
 use crate::server_end::{OUT_OF_MEMORY, ServerEnd, unserved, with_earlier};
 use crate::system::System;
@@ -17,8 +16,8 @@ use sb_backup::{
 };
 use sb_host::{Renewing, Stub};
 use sb_monitor::{
-    EventLog, Pages, RenewalLimits, ServerControls, StatusPort, Supervisor, TenantRenewals, listen,
-    memory_file, serve_beside, work_beside,
+    Chore, EventLog, Housekeeping, LongStop, NoChore, Pages, RenewalLimits, ServerControls,
+    StatusPort, Supervisor, TenantRenewals, listen, memory_file, serve_beside, work_beside,
 };
 use sb_server::{
     Admission, BackgroundTask, CommitHook, NoJournal, NoRenewals, Open, Renewals, ServeError,
@@ -90,10 +89,7 @@ where
         ensures plain { IsPlainServer self.now.words self.now.plan → EndsPlainly W.refuses W.contents
             (policy (A.wants gate.entry.admission.now) (A.admits gate.entry.admission.now)) writer.old writer.new result }
     {
-        let port = match self.status_port(gate.admission) {
-            Ok(port) => port,
-            Err(why) => return Err(why),
-        };
+        let port = self.status_port(gate.admission)?;
         match self.words.origin {
             Origin::Fresh => self.serve_with(gate, &NoJournal, Vec::new(self.alloc), &port, writer),
             Origin::Folder(path) => match self.beside(&port, || self.load(path)) {
@@ -296,10 +292,8 @@ where
         if matches!(self.words.origin, Origin::Journal(_)) || self.plan.terms.connections > 0 {
             return None;
         }
-        match saver {
-            Some(saver) => Some(LongStop::new(saver, self.host, listener)),
-            None => None,
-        }
+        let saver = saver.as_ref()?;
+        Some(LongStop::new(saver, self.host, listener))
     }
 
     /// Listens at the status port, if there is to be one.

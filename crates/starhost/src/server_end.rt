@@ -45,10 +45,7 @@ pub(crate) fn with_earlier(
 ) -> Result<ServerEnd, ProgramFault>
     ensures { HasEarlier earlier.items served result }
 {
-    let ServerEnd { mut stubs, saved } = match served {
-        Ok(served) => served,
-        Err(why) => return Err(why),
-    };
+    let ServerEnd { mut stubs, saved } = served?;
     let mut all = earlier;
     match all.append(&mut stubs) {
         Ok(()) => Ok(ServerEnd { stubs: all, saved }),

@@ -4,7 +4,7 @@ use Rattle.sb_durable.proofs.Sending.{opened_send}
 use Rattle.starhost.proofs.Sending.{recorder_sync}
 use Rattle.sb_durable.proofs.flusher.Flusher.TheSendSync as flusher
 use Rattle.sb_monitor.proofs.event_log.EventLog.TheSendSync as log
-use Rattle.starhost.proofs.journaled_server.JournalHook.TheSendSync as recording
+use Rattle.sb_monitor.proofs.journal_hook.JournalHook.TheSendSync as recording
 use Rattle.starhost.proofs.server_context.ServerContext.record.Goals as goal
 
 -- the threads share the recorder, the log and what syncs

@@ -1,8 +1,9 @@
-//! What the thread that started a server does about once a second while others serve.
+//! The background task of a server: its keys are read again, and a long stop writes its tenants.
 
+use crate::listener::is_closed;
 use sb_backup::TenantSaver;
 use sb_host::Lending;
-use sb_monitor::is_closed;
+use sb_keys::{KeyFiles, KeySource, KeyWatch, Look};
 use sb_server::{BackgroundTask, ShutdownSignal};
 use sb_words::Log;
 use std::net::TcpListener;
@@ -10,14 +11,15 @@ use std::rt::Files;
 use std::sync::Wait;
 use std::sync::atomic::{AtomicBool, Ordering};
 
-/// Something that is looked at again and again.
-pub(crate) trait Chore {
+/// Something that is looked at about once a second while others serve.
+pub trait Chore {
     /// What was seen of it.
     type Seen: Drop;
 
     /// True if there is nothing to look at.
     fn is_idle(&self) -> bool;
 
+    /// What was seen before the first look.
     fn first(&self) -> Self::Seen;
 
     /// Looks at it, behind what was seen last.
@@ -25,7 +27,7 @@ pub(crate) trait Chore {
 }
 
 /// Nothing is looked at.
-pub(crate) struct NoChore;
+pub struct NoChore;
 
 impl Chore for NoChore {
     type Seen = ();
@@ -39,9 +41,25 @@ impl Chore for NoChore {
     fn look<R: Wait>(&self, _rt: &R, _last: ()) {}
 }
 
+impl<'p, 'l, 'k, L: KeyFiles, S: KeySource<L>, O: Log> Chore for KeyWatch<'p, 'l, 'k, L, S, O> {
+    type Seen = Look;
+
+    fn is_idle(&self) -> bool {
+        false
+    }
+
+    fn first(&self) -> Look {
+        self.first()
+    }
+
+    fn look<R: Wait>(&self, rt: &R, last: Look) -> Look {
+        self.look(rt, last)
+    }
+}
+
 /// Writes the tenants that are at rest where a stop takes long, so that none waits for the rules of another one.
 #[derive(Drop)]
-pub(crate) struct LongStop<'s, 'r, 'j, H, T, O> {
+pub struct LongStop<'s, 'r, 'j, H, T, O> {
     saver: &'s TenantSaver<'r, 'j, T, O>,
     host: H,
     /// The server's port, which is closed from the beginning of its stop.
@@ -53,8 +71,8 @@ pub(crate) struct LongStop<'s, 'r, 'j, H, T, O> {
 }
 
 impl<'s, 'r, 'j, H: Lending, T: Files, O: Log> LongStop<'s, 'r, 'j, H, T, O> {
-    /// That of a server whose port is closed by its stop alone.
-    pub(crate) fn new(
+    /// The long stop of a server whose port is closed by its stop alone.
+    pub fn new(
         saver: &'s TenantSaver<'r, 'j, T, O>,
         host: H,
         listener: &'s TcpListener,
@@ -83,11 +101,12 @@ impl<'s, 'r, 'j, H: Lending, T: Files, O: Log> LongStop<'s, 'r, 'j, H, T, O> {
     }
 }
 
-/// All that is to be done.
+/// Looks at a chore, and at a long stop where tenants are written behind the server's end.
 #[derive(Drop)]
-pub(crate) struct Housekeeping<'c, 's, 'r, 'j, C, H, T, O> {
-    pub(crate) chore: &'c C,
-    pub(crate) long_stop: Option<LongStop<'s, 'r, 'j, H, T, O>>,
+pub struct Housekeeping<'c, 's, 'r, 'j, C, H, T, O> {
+    pub chore: &'c C,
+    /// None where no tenants are written.
+    pub long_stop: Option<LongStop<'s, 'r, 'j, H, T, O>>,
 }
 
 impl<'c, 's, 'r, 'j, C: Chore, H: Lending, T: Files, O: Log> BackgroundTask

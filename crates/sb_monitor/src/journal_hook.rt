@@ -1,0 +1,119 @@
+//! A server's journal: what is answered is recorded before it is sent, and synced.
+ghost use Rattle.std.specs.Prelude.{true};
+ghost use Rattle.sb_durable.specs.RecordedTrails.{AreKept};
+
+use crate::event_log::EventLog;
+use crate::housekeeping::Chore;
+use sb_durable::{Disk, Flusher, JournalError, Recorder, tell_not_recorded};
+use sb_host::Lending;
+use sb_server::{CommitHook, CommitStatus};
+use sb_words::Log;
+use std::rt::Clock;
+use std::sync::Wait;
+use std::sync::atomic::{AtomicBool, Ordering};
+
+/// Records what tenants are answered in a journal.
+#[derive(Drop)]
+pub struct JournalHook<'k, R, T> {
+    recorder: R,
+    log: &'k EventLog<'k, T>,
+    /// The last commit lacked memory.
+    lacks_memory: AtomicBool,
+    has_failed: AtomicBool,
+    /// Syncs what is written, if commits don't.
+    flusher: Option<&'k Flusher<'k, EventLog<'k, T>>>,
+}
+
+impl<'k, R, T: Eprint + Clock> JournalHook<'k, R, T> {
+    /// A hook of this recorder. Without a flusher each commit has synced what it wrote.
+    pub fn new(
+        recorder: R,
+        log: &'k EventLog<'k, T>,
+        flusher: Option<&'k Flusher<'k, EventLog<'k, T>>>,
+    ) -> JournalHook<'k, R, T> {
+        JournalHook {
+            recorder,
+            log,
+            lacks_memory: AtomicBool::new(false),
+            has_failed: AtomicBool::new(false),
+            flusher,
+        }
+    }
+
+    /// Notes that something was written, unless an earlier sync has failed.
+    fn written(&self) -> CommitStatus {
+        match self.flusher {
+            Some(flusher) if flusher.has_failed() => CommitStatus::Failed,
+            Some(flusher) => {
+                flusher.note();
+                CommitStatus::All
+            }
+            None => CommitStatus::All,
+        }
+    }
+
+    /// Logs why nothing was recorded. A lack of memory is logged again after a success, any other reason once.
+    fn tell(&self, error: &JournalError) {
+        let was_told = match error {
+            JournalError::Memory => self.lacks_memory.swap(true, Ordering::SeqCst),
+            _ => self.has_failed.swap(true, Ordering::SeqCst),
+        };
+        if !was_told {
+            tell_not_recorded(self.log, error);
+        }
+    }
+}
+
+impl<'k, H: Lending, D: Disk, T: Eprint + Clock> CommitHook for JournalHook<'k, Recorder<H, D>, T> {
+    ghost is_set = { λ _. true };
+
+    ghost keeps = { λ _ tenants. AreKept D.Disk tenants };
+
+    fn is_set(&self) -> bool {
+        true
+    }
+
+    fn keep<W: Wait>(&self, rt: &W, tenants: &[u32]) -> CommitStatus {
+        match self.recorder.keep(rt, tenants) {
+            Ok(()) => {
+                self.lacks_memory.store(false, Ordering::SeqCst);
+                self.written()
+            }
+            Err(JournalError::Memory) => {
+                self.tell(&JournalError::Memory);
+                CommitStatus::NotYet
+            }
+            Err(error) => {
+                self.tell(&error);
+                CommitStatus::Failed
+            }
+        }
+    }
+}
+
+/// A chore, and the syncs of a journal if its commits don't sync.
+#[derive(Drop)]
+pub struct SyncedChore<'c, 'f, 'k, C, O> {
+    pub chore: &'c C,
+    pub flusher: Option<&'f Flusher<'k, O>>,
+}
+
+impl<'c, 'f, 'k, C: Chore, O: Log> Chore for SyncedChore<'c, 'f, 'k, C, O> {
+    type Seen = C::Seen;
+
+    fn is_idle(&self) -> bool {
+        self.chore.is_idle() && self.flusher.is_none()
+    }
+
+    fn first(&self) -> C::Seen {
+        self.chore.first()
+    }
+
+    /// A sync that fails is logged, and the next commit fails.
+    fn look<R: Wait>(&self, rt: &R, last: C::Seen) -> C::Seen {
+        if let Some(flusher) = self.flusher {
+            let _or_it_is_logged = flusher.flush();
+        }
+        self.chore.look(rt, last)
+    }
+}
