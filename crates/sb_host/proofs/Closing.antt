@@ -5,6 +5,7 @@ use Rattle.std.specs.List.Sorted.{IsPermutation}
 use Rattle.std.proofs.lemmas.Bool.{cases_lt}
 use Rattle.std.proofs.lemmas.List.Sorted.{IsPermutation-refl, length_permutation}
 use Rattle.sb_tenant.specs.declared.reply.Entry.{Entry}
+use Rattle.sb_tenant.specs.declared.volume.Volume.{Volume}
 use Rattle.sb_tenant.specs.Limits.{session_count}
 use Rattle.sb_desk.specs.declared.receipts.Receipt.{Receipt}
 use Rattle.sb_desk.specs.Receipts.{receipts_of}
@@ -15,22 +16,24 @@ use Rattle.sb_host.specs.declared.finish.Report.{Report}
 use Rattle.sb_host.specs.declared.gathering.SessionPlace.{SessionPlace}
 use Rattle.sb_desk.specs.declared.stub.Stub.{Stub}
 use Rattle.sb_host.specs.Comparing.{Audits, FailsAt, IsFirstStray, RowAgrees, RowFails, due_at}
-use Rattle.sb_host.specs.Finish.{AgreeBefore, Agrees, AreTrails, Finishes, IsMismatch, IsMissing, gathered, rank, row_at, wanted}
+use Rattle.sb_host.specs.Finish.{AgreeBefore, Agrees, AreTrails, AreVolumes, Finishes, IsMismatch, IsMissing, gathered, rank, row_at, wanted}
 use Rattle.sb_host.specs.Rows.{row_past}
 
 -- an audit against legal trails is the whole check
-pub finishes : (bound tenants : ℕ) (stubs : List Stub) (trails : List (Vec Entry Global)) (result : Result Report FinishError) → AreTrails bound tenants trails → Audits trails stubs result → Finishes bound tenants stubs result
-finishes bound tenants stubs trails (Ok report) legal h =
-    subst (λ (l : List (Vec Entry Global)). AreTrails bound tenants l × ((t s : ℕ) → s < session_count → Agrees t s stubs l)) (sym h.0) (legal, h.1)
-finishes bound tenants stubs trails (Err (Missing t s)) legal h = (trails, legal, h)
-finishes bound tenants stubs trails (Err (Mismatch t s)) legal h = (trails, legal, h)
-finishes bound tenants stubs trails (Err NoMemory) legal h = tt
+pub finishes : (bound tenants : ℕ) (stubs : List Stub) (trails : List (Vec Entry Global)) (volumes : List Volume) (result : Result Report FinishError)
+    → AreTrails bound tenants trails → AreVolumes bound trails volumes → Audits trails volumes stubs result → Finishes bound tenants stubs result
+finishes bound tenants stubs trails volumes (Ok report) legal kept h =
+    subst (λ (p : List (Vec Entry Global) × List Volume). AreTrails bound tenants p.0 × ((t s : ℕ) → s < session_count → Agrees t s stubs p.0) × AreVolumes bound p.0 p.1)
+    (λ i. (sym h.0 i, sym h.2 i)) (legal, h.1, kept)
+finishes bound tenants stubs trails volumes (Err (Missing t s)) legal kept h = (trails, legal, h)
+finishes bound tenants stubs trails volumes (Err (Mismatch t s)) legal kept h = (trails, legal, h)
+finishes bound tenants stubs trails volumes (Err NoMemory) legal kept h = tt
 
 no_length : (xs : List Receipt) → length xs ≡ 0 → xs ≡ []
 no_length [] h = refl
 no_length (x ∷ xs) h = absurd (omega arith)
 
-module _ (tenants : ℕ) (stubs : List Stub) (trails : List (Vec Entry Global)) (long : length trails ≡ tenants) where
+module _ (tenants : ℕ) (stubs : List Stub) (trails : List (Vec Entry Global)) (volumes : List Volume) (long : length trails ≡ tenants) where
   no_entries : (t s : ℕ) → tenants ≤ t → wanted t s trails ≡ []
   no_entries t s far = ap (receipts_of s 1) (row_past trails t (omega (arith, long)))
 
@@ -69,7 +72,7 @@ module _ (tenants : ℕ) (stubs : List Stub) (trails : List (Vec Entry Global)) 
           λ p. f.2.1 (back t s few small p),
         )
 
-    pub refuses : (e : FinishError) → RowFails rows trails e → Audits trails stubs (Err e)
+    pub refuses : (e : FinishError) → RowFails rows trails e → Audits trails volumes stubs (Err e)
     refuses (Missing t s) h = is_missing t s h.0 h.1
     refuses (Mismatch t s) h = is_mismatch t s h.0 h.1
     refuses NoMemory h = absurd h

@@ -4,6 +4,7 @@ pub mod Rising
 pub mod Wanted
 pub mod Rows
 pub mod Trails
+pub mod Lives
 pub mod Refusals
 pub mod Closing
 pub mod Sending

@@ -3,6 +3,7 @@ use Rattle.std.specs.Prelude.{ℕ, ◌==◌, if◌then◌else◌, ◌∷◌, ◌
 use Rattle.std.specs.Global.{Global}
 use Rattle.std.specs.List.Sorted.{IsPermutation}
 use Rattle.sb_tenant.specs.declared.reply.Entry.{Entry}
+use Rattle.sb_tenant.specs.declared.volume.Volume.{Volume}
 use Rattle.sb_tenant.specs.Limits.{session_count}
 use Rattle.sb_tenant.specs.Tenant.{Tenant}
 use Rattle.sb_tenant.specs.Trail.{IsTrail}
@@ -16,7 +17,7 @@ use Rattle.sb_host.specs.declared.finish.FinishError.TheVariants.{Missing, Misma
 use Rattle.sb_host.specs.declared.finish.Report.{Report}
 use Rattle.sb_host.specs.declared.gathering.SessionPlace.{SessionPlace}
 use Rattle.sb_desk.specs.declared.stub.Stub.{Stub}
-use Rattle.sb_host.specs.Finish.{Agrees, IsKept, IsMismatch, IsMissing, gathered, rank, receipts_in, row_at, wanted}
+use Rattle.sb_host.specs.Finish.{Agrees, IsKeptAs, IsMismatch, IsMissing, gathered, rank, receipts_in, row_at, volume_at, wanted}
 
 -- the test says whether the two are equal
 abbrev pub Tells : {A : Type 0} → Bool → A → A → Type 0
@@ -88,16 +89,23 @@ RowFails rows trails NoMemory = ⊥
 
 -- ---- the trails of cells
 
--- the trail of the last of these tenants that has this number, or else the one that stood there
-abbrev pub trail_by : ℕ → List Entry → List Tenant → List Entry
-trail_by n held [] = held
-trail_by n held (t ∷ ts) = trail_by n (if t.id == n then t.trail else held) ts
+-- what the last of these tenants with this number has there, or else what stood there
+abbrev pub last_by : {A : Type 0} → (Tenant → A) → ℕ → A → List Tenant → A
+last_by part n held [] = held
+last_by part n held (t ∷ ts) = last_by part n (if t.id == n then part t else held) ts
 
--- one legal trail for each tenant; and those of the first cells are the ones that they keep
-abbrev pub AreTrailsOf : ℕ → ℕ → ℕ → ℕ → List (Vec Entry Global) → Type 0
-AreTrailsOf cells bound tenants count trails =
+abbrev pub trail_by : ℕ → List Entry → List Tenant → List Entry
+trail_by n held ts = last_by (λ (t : Tenant). t.trail) n held ts
+
+abbrev pub volume_by : ℕ → Volume → List Tenant → Volume
+volume_by n held ts = last_by (λ (t : Tenant). t.volume) n held ts
+
+-- one legal trail and one volume for each tenant; and those of the first cells are the ones that they keep
+abbrev pub AreTrailsOf : ℕ → ℕ → ℕ → ℕ → List (Vec Entry Global) → List Volume → Type 0
+AreTrailsOf cells bound tenants count trails volumes =
     (length trails ≡ tenants) × ((t : ℕ) → IsTrail t bound (row_at trails t))
-    × ((t : ℕ) → t < tenants → t % cells < count → IsKept bound t (row_at trails t))
+    × ((t : ℕ) → t < tenants → t % cells < count → IsKeptAs bound t (row_at trails t) (volume_at volumes t))
+    × (length volumes ≡ tenants)
 
 -- ---- the sessions of other tenants
 
@@ -118,9 +126,10 @@ is_no_later p other = nat_le (rank p.tenant p.session) (rank other.tenant other.
 
 -- ---- all sessions
 
--- these trails are handed back where all agree; or the first that doesn't is told; or memory ran out
-abbrev pub Audits : List (Vec Entry Global) → List Stub → Result Report FinishError → Type 0
-Audits trails stubs (Ok report) = (report.trails.items ≡ trails) × ((t s : ℕ) → s < session_count → Agrees t s stubs trails)
-Audits trails stubs (Err (Missing t s)) = IsMissing t s stubs trails
-Audits trails stubs (Err (Mismatch t s)) = IsMismatch t s stubs trails
-Audits trails stubs (Err NoMemory) = Unit {0}
+-- these trails and volumes are handed back where all agree; or the first that doesn't is told; or memory ran out
+abbrev pub Audits : List (Vec Entry Global) → List Volume → List Stub → Result Report FinishError → Type 0
+Audits trails volumes stubs (Ok report) =
+    (report.trails.items ≡ trails) × ((t s : ℕ) → s < session_count → Agrees t s stubs trails) × (report.volumes.items ≡ volumes)
+Audits trails volumes stubs (Err (Missing t s)) = IsMissing t s stubs trails
+Audits trails volumes stubs (Err (Mismatch t s)) = IsMismatch t s stubs trails
+Audits trails volumes stubs (Err NoMemory) = Unit {0}

@@ -1,11 +1,14 @@
 -- Promise: what the closing check compares, and what it answers.
-use Rattle.std.specs.Prelude.{ℕ, zero, suc, true, ◌+◌, ◌*◌, ◌≡◌, ◌<◌, ◌≤◌, ◌==◌, ◌&&◌, if◌then◌else◌, List, [], ◌∷◌, ◌++◌, length, Option, Some, None, Result, Ok, Err, Vec}
+use Rattle.std.specs.Prelude.{ℕ, zero, suc, true, ◌+◌, ◌*◌, ◌≡◌, ◌<◌, ◌≤◌, ◌==◌, ◌&&◌, if◌then◌else◌, List, [], ◌∷◌, ◌++◌, length, slice_index_or, Option, Some, None, Result, Ok, Err, Vec}
 use Rattle.std.specs.Global.{Global}
 use Rattle.std.specs.List.Sorted.{IsNonDecreasingBy, IsPermutation}
-use Rattle.sb_cell.specs.Tenants.{Cell, hosts, trails as trail_in}
+use Rattle.sb_cell.specs.Tenants.{Cell, hosts, tenant_at, trails as trail_in}
 use Rattle.sb_tenant.specs.declared.reply.Entry.{Entry}
+use Rattle.sb_tenant.specs.declared.volume.Volume.{Volume}
 use Rattle.sb_tenant.specs.Limits.{session_count}
+use Rattle.sb_tenant.specs.Tenant.{Tenant}
 use Rattle.sb_tenant.specs.Trail.{IsTrail}
+use Rattle.sb_tenant.specs.Volumes.{first_volume}
 use Rattle.sb_desk.specs.declared.receipts.Receipt.{Receipt}
 use Rattle.sb_desk.specs.Receipts.{receipts_of}
 use Rattle.sb_desk.specs.declared.stub.Stub.{Stub}
@@ -74,6 +77,20 @@ abbrev pub AreTrails : ℕ → ℕ → List (Vec Entry Global) → Type 0
 AreTrails bound tenants trails =
     (length trails ≡ tenants) × ((t : ℕ) → IsTrail t bound (row_at trails t)) × ((t : ℕ) → t < tenants → IsKept bound t (row_at trails t))
 
+-- the volume of that number; past the end there is none but the first
+abbrev pub volume_at : List Volume → ℕ → Volume
+volume_at volumes n = slice_index_or volumes n first_volume
+
+-- a cell keeps this tenant, whose trail this is, and this volume of its life
+abbrev pub IsKeptAs : ℕ → ℕ → List Entry → Volume → Type 0
+IsKeptAs bound t trail volume =
+    (c : Cell) × (own : Tenant) × (hosts c t ≡ true) × (c.bound ≡ bound) × (tenant_at c t ≡ Some own) × (trail ≡ own.trail) × (volume ≡ own.volume)
+
+-- the trails are those volumes of their tenants' lives
+abbrev pub AreVolumes : ℕ → List (Vec Entry Global) → List Volume → Type 0
+AreVolumes bound trails volumes =
+    (length volumes ≡ length trails) × ((t : ℕ) → t < length trails → IsKeptAs bound t (row_at trails t) (volume_at volumes t))
+
 -- the number of entries of all trails
 abbrev pub steps_in : List (Vec Entry Global) → ℕ
 steps_in [] = 0
@@ -88,10 +105,11 @@ abbrev pub IsMismatch : ℕ → ℕ → List Stub → List (Vec Entry Global) �
 IsMismatch t s stubs trails =
     AgreeBefore t s stubs trails × (length (wanted t s trails) ≤ length (gathered t s stubs)) × (Agrees t s stubs trails → ⊥)
 
--- all sessions agree with the trails that are given; or there are trails with which the first one that is told doesn't; or memory ran out
+-- all sessions agree with the trails that are given, with their volumes; or there are trails with which the first one that is told doesn't; or memory ran out
 abbrev pub Finishes : ℕ → ℕ → List Stub → Result Report FinishError → Type 0
 Finishes bound tenants stubs (Ok report) =
     AreTrails bound tenants report.trails.items × ((t s : ℕ) → s < session_count → Agrees t s stubs report.trails.items)
+    × AreVolumes bound report.trails.items report.volumes.items
 Finishes bound tenants stubs (Err (Missing t s)) = (trails : List (Vec Entry Global)) × AreTrails bound tenants trails × IsMissing t s stubs trails
 Finishes bound tenants stubs (Err (Mismatch t s)) = (trails : List (Vec Entry Global)) × AreTrails bound tenants trails × IsMismatch t s stubs trails
 Finishes bound tenants stubs (Err NoMemory) = Unit {0}

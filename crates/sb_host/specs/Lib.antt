@@ -2,6 +2,7 @@ pub mod Opening
 pub mod Lent
 pub mod Lending
 pub mod Finish
+pub mod Lives
 pub mod Rows
 pub mod Comparing
 pub mod Parts

@@ -4,6 +4,7 @@ ghost use Rattle.sb_host.specs.Comparing.{AreRows, IsFirstStray, LooksAt, TakeSt
 ghost use Rattle.sb_host.specs.Finish.{rank, row_at};
 
 use sb_desk::{Receipt, Stub};
+use sb_tenant::Volume;
 use sb_value::{SESSION_LIMIT, SessionId};
 use std::alloc::{AllocError, Global};
 
@@ -74,6 +75,18 @@ pub(crate) fn blank<T: Drop>(alloc: Global, count: usize) -> Result<Vec<Vec<T>>,
         rows.push(Vec::new(alloc))?;
     }
     Ok(rows)
+}
+
+/// The first volumes of so many lives.
+pub(crate) fn first_volumes(alloc: Global, count: usize) -> Result<Vec<Volume>, AllocError>
+    ensures { IfOk result (λ volumes. length volumes.items ≡ count) }
+{
+    let first = Volume {
+        number: 0,
+        before: 0,
+        opening: 0,
+    };
+    vec![in alloc; first; count]
 }
 
 /// The receipts of each session of so many tenants, by rank.

@@ -1,18 +1,18 @@
 //! The cells of a host, each behind a lock of its own.
 ghost use Rattle.std.specs.Prelude.{◌≡◌, ◌↔◌, ◌<◌, ◌≤◌, nat_lt, false, IsFalse, IsSome, IsTrue, IfOk, IfErr, OnOk};
 ghost use Rattle.sb_desk.specs.Calls.{Attached, Called, IsRefused, IsNewcomer, Left, Refused};
-ghost use Rattle.sb_host.specs.Finish.{AreTrails};
+ghost use Rattle.sb_host.specs.Finish.{AreTrails, AreVolumes};
 ghost use Rattle.sb_host.specs.Lending.{Lends};
 
 use crate::closed_parts::ClosedParts;
-use crate::gathering::blank;
+use crate::gathering::{blank, first_volumes};
 use crate::lock_group::LockGroup;
 use crate::locks::Reach;
 use crate::reading::{Reading, Tried};
 use crate::session::Session;
 use sb_desk::seats::Seats;
 use sb_desk::{AttachError, CallError, Gate, Naming, Receipts};
-use sb_tenant::Entry;
+use sb_tenant::{Entry, Volume};
 use sb_value::{SESSION_LIMIT, SessionId};
 use std::alloc::{AllocError, Global};
 use std::marker::Model;
@@ -207,12 +207,17 @@ impl<N: Naming> Host<N> {
         }
     }
 
-    /// The trails of all cells, at the places of their tenants.
-    pub(crate) fn into_trails(self, alloc: Global) -> Result<Vec<Vec<Entry>>, AllocError>
-        ensures trails { IfOk result (λ trails. AreTrails N.bound self trails.items) }
+    /// The trails of all cells, and their volumes, at the places of their tenants.
+    pub(crate) fn into_trails(
+        self,
+        alloc: Global,
+    ) -> Result<(Vec<Vec<Entry>>, Vec<Volume>), AllocError>
+        ensures trails { IfOk result (λ r. AreTrails N.bound self r.0.items) }
+        ensures volumes { IfOk result (λ r. AreVolumes N.bound r.0.items r.1.items) }
         ensures few { self ≤ 256 }
     {
         let mut trails = blank(alloc, self.tenants as usize)?;
+        let mut volumes = first_volumes(alloc, self.tenants as usize)?;
         let Self {
             tenants: _,
             cells: _,
@@ -223,10 +228,10 @@ impl<N: Naming> Host<N> {
             third,
             fourth,
         } = self;
-        first.put(&mut trails);
-        second.put(&mut trails);
-        third.put(&mut trails);
-        fourth.put(&mut trails);
-        Ok(trails)
+        first.put(&mut trails, &mut volumes);
+        second.put(&mut trails, &mut volumes);
+        third.put(&mut trails, &mut volumes);
+        fourth.put(&mut trails, &mut volumes);
+        Ok((trails, volumes))
     }
 }

@@ -15,7 +15,7 @@ use crate::renewal::{NotRenewedVolume, VolumeRenewal};
 use crate::volume_stubs::VolumeStubs;
 use sb_desk::seats::{SeatTable, SessionSeat};
 use sb_desk::{AttachError, CallError, Gate, Naming, Receipt, Receipts};
-use sb_tenant::{Entry, Tenant};
+use sb_tenant::{Entry, Tenant, Volume};
 use sb_value::SessionId;
 use std::alloc::{AllocError, Global};
 use std::marker::Model;
@@ -228,11 +228,11 @@ impl<N: Naming, const A: u32, const B: u32, const C: u32, const D: u32> LockGrou
         }
     }
 
-    /// Puts the trails of its cells at the places of their tenants.
-    pub(crate) fn put(self, trails: &mut Vec<Vec<Entry>>)
-        requires trails { AreTrailsOf N.cells N.bound N.tenants A trails.old.items }
+    /// Puts the trails of its cells, and their volumes, at the places of their tenants.
+    pub(crate) fn put(self, trails: &mut Vec<Vec<Entry>>, volumes: &mut Vec<Volume>)
+        requires trails { AreTrailsOf N.cells N.bound N.tenants A trails.old.items volumes.old.items }
         requires cells { 0 < N.cells }
-        ensures { AreTrailsOf N.cells N.bound N.tenants (D + 1) trails.new.items }
+        ensures { AreTrailsOf N.cells N.bound N.tenants (D + 1) trails.new.items volumes.new.items }
     {
         let Self {
             first,
@@ -240,9 +240,9 @@ impl<N: Naming, const A: u32, const B: u32, const C: u32, const D: u32> LockGrou
             third,
             fourth,
         } = self;
-        put(trails, first);
-        put(trails, second);
-        put(trails, third);
-        put(trails, fourth);
+        put(trails, volumes, first);
+        put(trails, volumes, second);
+        put(trails, volumes, third);
+        put(trails, volumes, fourth);
     }
 }
