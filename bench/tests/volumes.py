@@ -7,8 +7,8 @@ PROGRAM is crates/starhost/out/starhost where no word is given. Told in one line
 connection, with rules, refused lines and selects, beside seven other sessions of the tenant that have transactions now and then;
 what the server has in memory behind SELECTS selects (10,000) of 4,000 rows, where a tenant has a share of it; sixteen clients
 of two tenants that are renewed again and again, and the longest wait of each tenant; and a server with a journal that is killed
-while its tenants are renewed: each transaction that was answered is there at its next start. The first reply that isn't as it is
-to be ends this with status 1.
+while its tenants are renewed: each transaction that was answered is there at its next start. The last line of the first three
+servers counts the steps of all volumes. The first reply that isn't as it is to be ends this with status 1.
 """
 
 import random
@@ -69,6 +69,14 @@ def prepare(server, first):
     return client
 
 
+def end_counted(server, tenants, connections, sessions, lines):
+    """Ends a server that had so many connections and got so many lines behind their first ones. At each renewal so many sessions of
+    the tenant were open. The last line counts each step of each volume: a line, and the `open` and the `end` of a session."""
+    told, log = server.end_well()
+    renewals = sum("renewed: tenant " in line for line in log)
+    expect("the last line", told, f"trails {tenants} steps {lines + 2 * connections + 2 * sessions * renewals}")
+
+
 class Neighbour(threading.Thread):
     """A session that has a transaction now and then. It notes the first reply that is wrong."""
 
@@ -124,7 +132,7 @@ def life(program, lines):
     need(renewals >= count // 1_048_576, f"{renewals} renewals")
     memory = server.memory()
     need(memory < 600_000, f"{memory} KB")
-    server.end_well()
+    end_counted(server, 1, 8, 8, len(SETUP) + count + 3 * sum(neighbour.times for neighbour in neighbours))
     print(f"{count:,} lines over one connection in {took:.1f} s, {renewals} renewals, {sum(n.times for n in neighbours)} transactions beside them, {memory:,} KB")
 
 
@@ -149,7 +157,7 @@ def share(program, selects):
     renewals = int(sample(server, "filgwesha_renewals_total"))
     need(selects < 1000 or renewals > 0, "it was never renewed")
     need(after <= 1.2 * 64 * 1024, f"{after} KB more than before")
-    server.end_well()
+    end_counted(server, 1, 1, 1, 11 + 3 * selects)
     print(f"{selects:,} selects of 4,000 rows with a share of 64 MB: {after:,} KB more at the end, {most - before:,} KB at most, {renewals} renewals")
 
 
@@ -159,7 +167,7 @@ class Writer(threading.Thread):
     def __init__(self, server, tenant, session, over):
         super().__init__()
         self.client, self.over, self.table = server.client(f"{tenant} {session}"), over, f"t{session}"
-        self.tenant, self.made, self.longest, self.wrong = tenant, 0, 0.0, None
+        self.tenant, self.made, self.lines, self.longest, self.wrong = tenant, 0, 0, 0.0, None
 
     def run(self):
         try:
@@ -167,7 +175,7 @@ class Writer(threading.Thread):
                 if self.made % 1000 == 999:  # a table has at most 4,096 rows
                     self.empty()
                 began = time.monotonic()
-                told = [self.client.ask(line) for line in ("begin", f"insert into {self.table} values ({self.made})", "commit")]
+                told = [self.ask(line) for line in ("begin", f"insert into {self.table} values ({self.made})", "commit")]
                 self.longest = max(self.longest, time.monotonic() - began)
                 if told != ["ok", "ok 1", "done 0"]:
                     self.wrong = told
@@ -176,9 +184,13 @@ class Writer(threading.Thread):
         except Closed:
             self.wrong = "closed"
 
+    def ask(self, line):
+        self.lines += 1
+        return self.client.ask(line)
+
     def empty(self):
         for line in ("begin", f"delete from {self.table}", "commit"):
-            self.client.ask(line)
+            self.ask(line)
 
 
 def writers_of(server, over):
@@ -207,7 +219,7 @@ def beside(program):
     renewals = int(sample(server, "filgwesha_renewals_total"))
     need(renewals >= 10, f"{renewals} renewals")
     longest = [max(writer.longest for writer in writers if writer.tenant == tenant) for tenant in range(2)]
-    server.end_well()
+    end_counted(server, 2, 18, 8, 16 + sum(writer.lines for writer in writers))
     print(f"sixteen clients, {renewals} renewals: {sum(w.made for w in writers)} transactions, nobody closed; longest waits {longest[0] * 1000:.0f} and {longest[1] * 1000:.0f} ms")
 
 

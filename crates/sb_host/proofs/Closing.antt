@@ -16,14 +16,14 @@ use Rattle.sb_host.specs.declared.finish.Report.{Report}
 use Rattle.sb_host.specs.declared.gathering.SessionPlace.{SessionPlace}
 use Rattle.sb_desk.specs.declared.stub.Stub.{Stub}
 use Rattle.sb_host.specs.Comparing.{Audits, FailsAt, IsFirstStray, RowAgrees, RowFails, due_at}
-use Rattle.sb_host.specs.Finish.{AgreeBefore, Agrees, AreTrails, AreVolumes, Finishes, IsMismatch, IsMissing, gathered, rank, row_at, wanted}
+use Rattle.sb_host.specs.Finish.{AgreeBefore, Agrees, AreTrails, AreKeptAs, Finishes, IsMismatch, IsMissing, gathered, rank, row_at, wanted}
 use Rattle.sb_host.specs.Rows.{row_past}
 
 -- an audit against legal trails is the whole check
 pub finishes : (bound tenants : ℕ) (stubs : List Stub) (trails : List (Vec Entry Global)) (volumes : List Volume) (result : Result Report FinishError)
-    → AreTrails bound tenants trails → AreVolumes bound trails volumes → Audits trails volumes stubs result → Finishes bound tenants stubs result
+    → AreTrails bound tenants trails → AreKeptAs bound trails volumes → Audits trails volumes stubs result → Finishes bound tenants stubs result
 finishes bound tenants stubs trails volumes (Ok report) legal kept h =
-    subst (λ (p : List (Vec Entry Global) × List Volume). AreTrails bound tenants p.0 × ((t s : ℕ) → s < session_count → Agrees t s stubs p.0) × AreVolumes bound p.0 p.1)
+    subst (λ (p : List (Vec Entry Global) × List Volume). AreTrails bound tenants p.0 × ((t s : ℕ) → s < session_count → Agrees t s stubs p.0) × AreKeptAs bound p.0 p.1)
     (λ i. (sym h.0 i, sym h.2 i)) (legal, h.1, kept)
 finishes bound tenants stubs trails volumes (Err (Missing t s)) legal kept h = (trails, legal, h)
 finishes bound tenants stubs trails volumes (Err (Mismatch t s)) legal kept h = (trails, legal, h)

@@ -11,7 +11,7 @@ use Rattle.sb_tenant.specs.Tenant.{Tenant}
 use Rattle.sb_tenant.specs.Volumes.{first_volume}
 use Rattle.sb_cell.specs.Tenants.{Cell, hosts, tenant_at, trail_of}
 use Rattle.sb_host.specs.Comparing.{AreTrailsOf, last_by, trail_by, volume_by}
-use Rattle.sb_host.specs.Finish.{AreTrails, AreVolumes, IsKept, IsKeptAs, row_at, volume_at}
+use Rattle.sb_host.specs.Finish.{AreTrails, AreKeptAs, IsKept, IsKeptAs, row_at, volume_at}
 
 -- ---- what tenants have, by their numbers
 
@@ -114,5 +114,5 @@ module _ (cells bound tenants class : ℕ) (trails : List (Vec Entry Global)) (v
   pub all_trails : AreTrails bound tenants trails
   all_trails = (h.0, h.1, λ t few. kept bound t (row_at trails t) (volume_at volumes t) (h.2 t few (omega arith)))
 
-  pub all_volumes : AreVolumes bound trails volumes
+  pub all_volumes : AreKeptAs bound trails volumes
   all_volumes = (h.3 ∙ sym h.0, λ t few. h.2 t (omega (arith, h.0)) (omega arith))

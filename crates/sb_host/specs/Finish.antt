@@ -87,8 +87,8 @@ IsKeptAs bound t trail volume =
     (c : Cell) × (own : Tenant) × (hosts c t ≡ true) × (c.bound ≡ bound) × (tenant_at c t ≡ Some own) × (trail ≡ own.trail) × (volume ≡ own.volume)
 
 -- the trails are those volumes of their tenants' lives
-abbrev pub AreVolumes : ℕ → List (Vec Entry Global) → List Volume → Type 0
-AreVolumes bound trails volumes =
+abbrev pub AreKeptAs : ℕ → List (Vec Entry Global) → List Volume → Type 0
+AreKeptAs bound trails volumes =
     (length volumes ≡ length trails) × ((t : ℕ) → t < length trails → IsKeptAs bound t (row_at trails t) (volume_at volumes t))
 
 -- the number of entries of all trails
@@ -109,7 +109,7 @@ IsMismatch t s stubs trails =
 abbrev pub Finishes : ℕ → ℕ → List Stub → Result Report FinishError → Type 0
 Finishes bound tenants stubs (Ok report) =
     AreTrails bound tenants report.trails.items × ((t s : ℕ) → s < session_count → Agrees t s stubs report.trails.items)
-    × AreVolumes bound report.trails.items report.volumes.items
+    × AreKeptAs bound report.trails.items report.volumes.items
 Finishes bound tenants stubs (Err (Missing t s)) = (trails : List (Vec Entry Global)) × AreTrails bound tenants trails × IsMissing t s stubs trails
 Finishes bound tenants stubs (Err (Mismatch t s)) = (trails : List (Vec Entry Global)) × AreTrails bound tenants trails × IsMismatch t s stubs trails
 Finishes bound tenants stubs (Err NoMemory) = Unit {0}

@@ -61,13 +61,13 @@ fn steps_of(trails: &[Vec<Entry>]) -> Option<u64>
 fn steps_made_of(trails: &[Vec<Entry>], volumes: &[Volume]) -> Option<u64>
     ensures { let steps = steps_made_in trails.now volumes.now in SomeIff result (steps < 2 ^ 64) steps }
 {
-    let Some((trail, trails)) = trails.split_first() else {
+    let Some((trail, other_trails)) = trails.split_first() else {
         return Some(0);
     };
-    let Some((volume, volumes)) = volumes.split_first() else {
+    let Some((volume, other_volumes)) = volumes.split_first() else {
         return Some(0);
     };
-    let others = steps_made_of(trails, volumes)?;
+    let others = steps_made_of(other_trails, other_volumes)?;
     others.checked_add(life_steps(volume, trail.len() as u64)?)
 }
 

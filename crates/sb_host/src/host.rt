@@ -1,7 +1,7 @@
 //! The cells of a host, each behind a lock of its own.
 ghost use Rattle.std.specs.Prelude.{◌≡◌, ◌↔◌, ◌<◌, ◌≤◌, nat_lt, false, IsFalse, IsSome, IsTrue, IfOk, IfErr, OnOk};
 ghost use Rattle.sb_desk.specs.Calls.{Attached, Called, IsRefused, IsNewcomer, Left, Refused};
-ghost use Rattle.sb_host.specs.Finish.{AreTrails, AreVolumes};
+ghost use Rattle.sb_host.specs.Finish.{AreTrails, AreKeptAs};
 ghost use Rattle.sb_host.specs.Lending.{Lends};
 
 use crate::closed_parts::ClosedParts;
@@ -213,7 +213,7 @@ impl<N: Naming> Host<N> {
         alloc: Global,
     ) -> Result<(Vec<Vec<Entry>>, Vec<Volume>), AllocError>
         ensures trails { IfOk result (λ r. AreTrails N.bound self r.0.items) }
-        ensures volumes { IfOk result (λ r. AreVolumes N.bound r.0.items r.1.items) }
+        ensures volumes { IfOk result (λ r. AreKeptAs N.bound r.0.items r.1.items) }
         ensures few { self ≤ 256 }
     {
         let mut trails = blank(alloc, self.tenants as usize)?;
