@@ -67,7 +67,6 @@ module _ (c : Cell) (cells tenants bound class : ℕ) (own : List Tenant) (rows 
   -- each tenant of this number is the one that the cell has
   of_own : {A : Type 0} (part : Tenant → A) (t : ℕ) (u : Tenant) → tenant_at c t ≡ Some u → All (λ w. w.id ≡ t → part w ≡ part u) own
   of_own part t u is k d within same =
-      let w = get_or own k d in
       ap (λ (o : Option Tenant). part (tenant_of u o)) (sym (each k d within).2 ∙ ap (tenant_at c) same ∙ is)
 
   of_others : {A : Type 0} (part : Tenant → A) (held : A) (t : ℕ) → (t % cells ≡ class → ⊥) → All (λ u. u.id ≡ t → part u ≡ held) own

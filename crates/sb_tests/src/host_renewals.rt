@@ -106,7 +106,9 @@ fn serve<N: Naming, R: Wait + Abort>(rt: &R, alloc: Global, opened: Opened) -> R
     let mut stubs = renewed(rt, alloc, &host)?;
     stubs.push(left(rt, alloc, &host, 0, &[b"select * from t"]))?;
     let report = finish(rt, alloc, host, stubs, false);
-    assert!(rt; report.is_some_and(|report| report.steps() == Some(9) && report.steps_made() == Some(13)));
+    assert!(rt;
+        report.is_some_and(|report| report.steps() == Some(9) && report.steps_made() == Some(13))
+    );
     Ok(())
 }
 
