@@ -34,7 +34,9 @@ pub struct ShutdownSignal {
 
 impl ShutdownSignal {
     /// A signal for this number of jobs.
-    pub(crate) fn new(jobs: usize) -> ShutdownSignal {
+    pub(crate) fn new(jobs: usize) -> ShutdownSignal
+        ensures { result.jobs ≡ jobs }
+    {
         ShutdownSignal {
             jobs,
             begun: AtomicUsize::new(0),

@@ -1,5 +1,5 @@
 //! All connections of a listener, served by workers.
-ghost use Rattle.std.specs.Prelude.{◌≡◌, ◌<◌, ◌≤◌, ◌++◌, [], ℕ, List, IfOk, IsTrue, Ok, OnOk, Vec, vec_len};
+ghost use Rattle.std.specs.Prelude.{◌≡◌, ◌<◌, ◌≤◌, ◌+◌, ◌++◌, [], ℕ, List, IfOk, IsTrue, Ok, OnOk, Vec, vec_len};
 ghost use Rattle.std.specs.Global.{Global as ItsGlobal};
 ghost use Rattle.std.specs.List.{flat_map};
 ghost use Rattle.sb_desk.specs.declared.stub.Stub.{Stub as ItsStub};
@@ -112,6 +112,8 @@ pub(crate) struct Serving<'s, H: Hosting, V, D, K, E, C> {
     has_failed: AtomicBool,
     has_lost: AtomicBool,
     ghost some: { 0 < vec_len mailboxes },
+    /// The workers and the accept thread.
+    ghost counted: { over.now.jobs ≡ vec_len mailboxes + 1 },
     ghost placed: { ArePlaced mailboxes.items },
 }
 
@@ -459,6 +461,7 @@ fn all_setups<R: Net + Wait>(
     mailboxes: &mut Vec<Mailbox>,
 ) -> Result<(Vec<WorkerSetup>, Waker), ServeError>
     requires { mailboxes.old.items ≡ [] }
+    ensures setups { IfOk result (λ all. vec_len all.0 ≡ workers + 1) }
     ensures count { OnOk result (vec_len mailboxes.new ≡ workers) }
     ensures placed { OnOk result (ArePlaced mailboxes.new.items) }
 {
@@ -484,6 +487,7 @@ fn setups<R: Net + Wait>(
     mailboxes: &mut Vec<Mailbox>,
 ) -> Result<Vec<WorkerSetup>, ServeError>
     requires { mailboxes.old.items ≡ [] }
+    ensures setups { IfOk result (λ all. vec_len all ≡ workers) }
     ensures count { OnOk result (vec_len mailboxes.new ≡ workers) }
     ensures placed { OnOk result (ArePlaced mailboxes.new.items) }
 {

@@ -9,4 +9,5 @@ pub loop-number-preserved : goal.loop-number-preserved
 loop-number-preserved g c = (
   search rules,
   subst (λ (l : List Mailbox). ArePlaced l) (sym (search rules)) (placed_more c.loop-number.mailboxes.items c.new.result c.loop-number.invariant.1 (search rules)),
+  search rules,
 )
