@@ -1,5 +1,5 @@
 //! Renewals of tenants: the volume of a tenant's trail ends, and the next one begins.
-ghost use Rattle.std.specs.Prelude.{◌≡◌, ℕ, Bool, true, List, IsTrue};
+ghost use Rattle.std.specs.Prelude.{◌≡◌, ℕ, All, Bool, true, List, IsTrue};
 ghost use Rattle.sb_desk.specs.declared.stub.Stub.{Stub as ItsStub};
 
 use sb_desk::Stub;
@@ -26,6 +26,7 @@ pub trait Renewals {
 
     /// Takes the receipts that the tenant's sessions have left, and renews it if that can be done.
     fn renew<T: Wait>(&self, rt: &T, tenant: u32, stubs: Vec<Stub>)
+        requires { All (λ (stub : ItsStub). stub.tenant ≡ tenant) stubs.items }
         ensures { takes tenant stubs.items };
 }
 
