@@ -6,7 +6,7 @@ use Rattle.std.specs.List.{All}
 use Rattle.std.proofs.lemmas.Grind.{flat_map-append}
 use Rattle.std.proofs.lemmas.Bool.{cases_eq}
 use Rattle.std.proofs.lemmas.List.Elements.{All-append, All-cons, All-head, All-nil, All-tail, All-weaker}
-use Rattle.std.proofs.lemmas.List.Sorted.{All-permutation, IsPermutation-append_comm, IsPermutation-append_left, IsPermutation-append_right, IsPermutation-refl, IsPermutation-swap_remove, IsPermutation-sym, IsPermutation-to_front, IsPermutation-trans}
+use Rattle.std.proofs.lemmas.List.Sorted.{All-permutation, IsPermutation-append, IsPermutation-append_comm, IsPermutation-append_left, IsPermutation-append_right, IsPermutation-refl, IsPermutation-swap_remove, IsPermutation-sym, IsPermutation-to_front, IsPermutation-trans}
 use Rattle.slab.specs.Slab.{Slab, Updates, get}
 use Rattle.sb_desk.specs.declared.stub.Stub.{Stub}
 use Rattle.sb_connection.specs.Exchanges.{IsClosed}
@@ -15,7 +15,7 @@ use Rattle.sb_connection.specs.Policies.{Policy}
 use Rattle.sb_connection.specs.Traffic.{Traffic}
 use Rattle.sb_server.specs.Carried.{Carries}
 use Rattle.sb_server.specs.Closed.{GainsClosed, LeavesClosed}
-use Rattle.sb_server.specs.Renewals.{IsDone, IsLeft, KeepsOrRenews, LeavesVolume, Renewal, SameConnections}
+use Rattle.sb_server.specs.Renewals.{IsDone, IsLeft, KeepsOrRenews, LeavesOrRenews, LeavesVolume, Renewal, SameConnections}
 use Rattle.sb_server.specs.Sessions.{KeepsSessions, session_count}
 
 -- ---- what is left
@@ -174,11 +174,62 @@ module _ {X : Type 0} (p : Policy) (may : Bool) (renews : ℕ → List Stub → 
   keeps_then_closed before mid after old half new one gained kept =
       keeps_then before mid after old half new one (keeps_closed mid after half new gained kept)
 
-  -- of a worker that began with none, connections left all that it has
-  pub all_are_left : (before after : Slab X) (old new : List Stub) → old ≡ [] → KeepsOrRenews p may renews before after has old new → All (IsLeft p may) new
-  all_are_left before after old new none kept =
+  -- ---- what a server hands out
+
+  -- a worker that began with none hands out what it has
+  pub leaves_kept : (before after : Slab X) (old new stubs : List Stub) → old ≡ [] → stubs ≡ new → KeepsOrRenews p may renews before after has old new
+      → LeavesOrRenews p may renews stubs
+  leaves_kept before after old new stubs none is kept =
       let begun = subst (λ (l : List Stub). IsPermutation (l ++ kept.left) (new ++ taken kept.renewals)) none kept.kept in
-      all_front (IsLeft p may) new (taken kept.renewals) (All-permutation (IsLeft p may) kept.left (new ++ taken kept.renewals) begun kept.are_left)
+      record {
+        left = kept.left;
+        are_left = kept.are_left;
+        renewals = kept.renewals;
+        done = kept.done;
+        kept = subst (λ (l : List Stub). IsPermutation kept.left (l ++ taken kept.renewals)) (sym is) begun;
+      }
+
+module _ (p : Policy) (may : Bool) (renews : ℕ → List Stub → Type 0) where
+  -- connections left it, and no renewal took anything
+  pub leaves_all : (stubs : List Stub) → All (IsLeft p may) stubs → LeavesOrRenews p may renews stubs
+  leaves_all stubs are = record {
+    left = stubs;
+    are_left = are;
+    renewals = [];
+    done = All-nil (IsDone may renews);
+    kept = subst (λ (l : List Stub). IsPermutation stubs l) (sym (append-nil stubs)) (IsPermutation-refl stubs);
+  }
+
+  -- two workers do
+  pub leave_both : (one two : List Stub) → LeavesOrRenews p may renews one → LeavesOrRenews p may renews two → LeavesOrRenews p may renews (one ++ two)
+  leave_both one two a b = record {
+    left = a.left ++ b.left;
+    are_left = All-append (IsLeft p may) a.left b.left a.are_left b.are_left;
+    renewals = a.renewals ++ b.renewals;
+    done = All-append (IsDone may renews) a.renewals b.renewals a.done b.done;
+    kept = kept;
+  }
+    where
+      each : IsPermutation (a.left ++ b.left) ((one ++ taken a.renewals) ++ (two ++ taken b.renewals))
+      each = IsPermutation-append a.left (one ++ taken a.renewals) b.left (two ++ taken b.renewals) a.kept b.kept
+
+      apart : IsPermutation ((one ++ taken a.renewals) ++ (two ++ taken b.renewals)) (((one ++ two) ++ taken a.renewals) ++ taken b.renewals)
+      apart =
+          subst (λ (l : List Stub). IsPermutation l (((one ++ two) ++ taken a.renewals) ++ taken b.renewals)) (append_assoc (one ++ taken a.renewals) two (taken b.renewals))
+          (IsPermutation-append_left (taken b.renewals) ((one ++ taken a.renewals) ++ two) ((one ++ two) ++ taken a.renewals) (exchanged one (taken a.renewals) two))
+
+      all : ((one ++ two) ++ taken a.renewals) ++ taken b.renewals ≡ (one ++ two) ++ taken (a.renewals ++ b.renewals)
+      all = append_assoc (one ++ two) (taken a.renewals) (taken b.renewals) ∙ ap (λ (l : List Stub). (one ++ two) ++ l) (sym (flat_map-append (λ (r : Renewal). r.1) a.renewals b.renewals))
+
+      kept : IsPermutation (a.left ++ b.left) ((one ++ two) ++ taken (a.renewals ++ b.renewals))
+      kept =
+          subst (λ (l : List Stub). IsPermutation (a.left ++ b.left) l) all
+          (IsPermutation-trans (a.left ++ b.left) ((one ++ taken a.renewals) ++ (two ++ taken b.renewals)) (((one ++ two) ++ taken a.renewals) ++ taken b.renewals) each apart)
+
+  -- connections left what is handed out
+  pub are_left_of : (stubs : List Stub) → LeavesOrRenews p may renews stubs → All (IsLeft p may) stubs
+  are_left_of stubs some =
+      all_front (IsLeft p may) stubs (taken some.renewals) (All-permutation (IsLeft p may) some.left (stubs ++ taken some.renewals) some.kept some.are_left)
 
 -- one is moved from these receipts to those of a tenant
 pub moved_one : (stubs own rest after : List Stub) (i : ℕ) (x : Stub) → i < length stubs → x ≡ get_or stubs i x → rest ≡ swap_remove stubs i x → after ≡ own ++ x ∷ []

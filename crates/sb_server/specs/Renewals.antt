@@ -57,6 +57,14 @@ pub record KeepsOrRenews {X : Type 0} (p : Policy) (may_renew : Bool) (takes : �
   pub kept : IsPermutation (old ++ left) (new ++ flat_map (λ (r : Renewal). r.1) renewals)
   pub sessions : session_count before has ≤ session_count after has + length left
 
+-- What a server hands out: what connections left with it, but for what the renewals of their tenants took.
+pub record LeavesOrRenews (p : Policy) (may_renew : Bool) (takes : ℕ → List Stub → Type 0) (stubs : List Stub) : Type 0 where
+  pub left : List Stub
+  pub are_left : All (IsLeft p may_renew) left
+  pub renewals : List Renewal
+  pub done : All (IsDone may_renew takes) renewals
+  pub kept : IsPermutation left (stubs ++ flat_map (λ (r : Renewal). r.1) renewals)
+
 -- ---- connections
 
 -- none is closed, and none comes

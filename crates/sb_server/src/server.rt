@@ -6,7 +6,7 @@ ghost use Rattle.sb_desk.specs.declared.stub.Stub.{Stub as ItsStub};
 ghost use Rattle.sb_connection.specs.Policies.{policy};
 ghost use Rattle.sb_server.specs.Mailboxes.{ArePlaced};
 ghost use Rattle.sb_server.specs.Places.{place_of};
-ghost use Rattle.sb_server.specs.Renewals.{AreLeft};
+ghost use Rattle.sb_server.specs.Renewals.{AreLeft, LeavesOrRenews};
 
 use crate::accept_thread::{AcceptThread, FIRST_LINE};
 use crate::background_task::{BackgroundTask, ShutdownSignal, run_beside};
@@ -252,9 +252,9 @@ impl<'s, H: Hosting, V: Watch, D: Doorkeeper, K: CommitHook, E: Renewals, C: Clo
     WorkerSetup,
     Vec<Stub>,
 > for Serving<'s, H, V, D, K, E, C> {
-    ghost use Rattle.sb_server.specs.Renewals.{AreLeft};
+    ghost use Rattle.sb_server.specs.Renewals.{LeavesOrRenews};
 
-    ghost does = { λ _ stubs. AreLeft D.policy E.may_renew stubs };
+    ghost does = { λ _ stubs. LeavesOrRenews D.policy E.may_renew E.takes stubs.items };
 
     fn work<R: Wait>(&self, rt: &R, setup: WorkerSetup) -> Vec<Stub> {
         let WorkerSetup {
@@ -322,7 +322,7 @@ impl<'s, H: Hosting, V: Watch, D: Doorkeeper, K: CommitHook, E: Renewals, C: Clo
 
     /// Accepts connections, and closes those that open no session.
     fn run_accept_thread<R: Wait>(&self, rt: &R, seat: Poller, events: &mut Events) -> Vec<Stub>
-        ensures { AreLeft D.policy E.may_renew result }
+        ensures { LeavesOrRenews D.policy E.may_renew E.takes result.items }
     {
         let place = self.mailboxes.len();
         let lobby = Worker::new(self, place, self.lobby_limits(), seat);
@@ -340,7 +340,7 @@ impl<'s, H: Hosting, V: Watch, D: Doorkeeper, K: CommitHook, E: Renewals, C: Clo
         seat: Poller,
         events: &mut Events,
     ) -> Vec<Stub>
-        ensures { AreLeft D.policy E.may_renew result }
+        ensures { LeavesOrRenews D.policy E.may_renew E.takes result.items }
     {
         let mut worker = Worker::new(self, place, self.limits(), seat);
         worker.run(rt, events);
@@ -385,7 +385,9 @@ where
     R: Threads + Wait + Net + Clock + Sync,
     H::Session: Send,
     requires workers { (0 < config.now.terms.workers) × (config.now.terms.workers ≤ 16) }
-    ensures { IfOk result (AreLeft (policy (A.wants config.now.admission.now) (A.admits config.now.admission.now)) E.may_renew) }
+    ensures left { IfOk result (AreLeft (policy (A.wants config.now.admission.now) (A.admits config.now.admission.now)) E.may_renew) }
+    ensures renewed { IfOk result (λ stubs. LeavesOrRenews
+        (policy (A.wants config.now.admission.now) (A.admits config.now.admission.now)) E.may_renew E.takes stubs.items) }
 {
     serve_as::<Brand, H, V, A, K, E, G, R>(rt, alloc, config, host, background_task)
 }
@@ -411,7 +413,7 @@ where
     requires workers { (0 < config.now.terms.workers) × (config.now.terms.workers ≤ 16) }
     requires wants { A.wants config.now.admission.now ≡ N.policy.keyed }
     requires admits { (tenant : ℕ) (key : List ℕ) → A.admits config.now.admission.now tenant key → N.policy.admits tenant key }
-    ensures { IfOk result (AreLeft N.policy E.may_renew) }
+    ensures { IfOk result (λ stubs. LeavesOrRenews N.policy E.may_renew E.takes stubs.items) }
 {
     let guard = Guard::<A, N>::new(config.admission);
     let terms = config.terms;
