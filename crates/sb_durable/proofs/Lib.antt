@@ -30,4 +30,6 @@ mod Mending
 mod SegmentPlaces
 mod Begun
 mod CutFiles
+mod Rows
+mod Volumes
 mod Journals

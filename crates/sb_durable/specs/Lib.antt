@@ -20,5 +20,7 @@ pub mod Head
 pub mod Chain
 pub mod Segment
 pub mod SegmentEnds
+pub mod Row
+pub mod VolumeRecords
 pub mod JournaledRuns
 pub mod JournalFaults

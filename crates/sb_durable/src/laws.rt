@@ -2,6 +2,7 @@
 ghost use Rattle.std.specs.Prelude.{ℕ};
 ghost use Rattle.sb_durable.specs.RecordedLives.{RecordsAreTheSteps};
 ghost use Rattle.sb_durable.specs.Recording.{RecordsMakeTheState};
+ghost use Rattle.sb_durable.specs.VolumeRecords.{DraftsAreNothing, OldSegmentsCanGo, OlderAreOfNoUse, SessionsAlone, VolumesStand};
 
 /// The lines that a legal trail is recorded as make its state again, from the opening state on.
 pub fn records_make_the_state()
@@ -12,4 +13,29 @@ pub fn records_make_the_state()
 /// between two volumes.
 pub fn records_are_the_steps()
     ensures { (t : ℕ) → RecordsAreTheSteps t }
+{}
+
+/// Where a volume is whole in the newer records, a tenant's older ones are of no use.
+pub fn older_are_of_no_use()
+    ensures { (bound t : ℕ) → OlderAreOfNoUse bound t }
+{}
+
+/// A volume that is begun and not turned to makes nothing.
+pub fn drafts_are_nothing()
+    ensures { (bound t : ℕ) → DraftsAreNothing bound t }
+{}
+
+/// Behind a whole volume a tenant is what its script makes.
+pub fn volumes_stand()
+    ensures { (bound t : ℕ) → VolumesStand bound t }
+{}
+
+/// Records of sessions alone make what they make where there are no volumes.
+pub fn sessions_alone()
+    ensures { (bound t : ℕ) → SessionsAlone bound t }
+{}
+
+/// Segments can go whose records no tenant needs.
+pub fn old_segments_can_go()
+    ensures { OldSegmentsCanGo }
 {}

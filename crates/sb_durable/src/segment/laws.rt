@@ -1,5 +1,6 @@
 //! What holds of the definitions alone: each law is the contract of a function that does nothing.
 ghost use Rattle.sb_durable.specs.Chain.{CutFilesStand, OneEndOneSegment, OneFileOneSegment, WhatIsReadIsBound};
+ghost use Rattle.sb_durable.specs.Row.{BegunBehind, NewerAreARow, OneEndOneRow, OneFolderOneRow, OnlyTheNewestIsWritten};
 
 /// One digest at the end binds all of a segment.
 pub fn one_end_one_segment()
@@ -19,4 +20,29 @@ pub fn what_is_read_is_bound()
 /// A file that is cut at any byte has not begun, or it stands for the first contents.
 pub fn cut_files_stand()
     ensures { CutFilesStand }
+{}
+
+/// One digest at the end of a row binds all its segments.
+pub fn one_end_one_row()
+    ensures { OneEndOneRow }
+{}
+
+/// Files stand for one row at most.
+pub fn one_folder_one_row()
+    ensures { OneFolderOneRow }
+{}
+
+/// Where the oldest segments of a row are gone, a row is left.
+pub fn newer_are_a_row()
+    ensures { NewerAreARow }
+{}
+
+/// What a crash leaves of an append to the newest segment, the folder has before or after it.
+pub fn only_the_newest_is_written()
+    ensures { OnlyTheNewestIsWritten }
+{}
+
+/// What a crash leaves of a segment that is begun behind the newest, the folder holds as before.
+pub fn begun_behind()
+    ensures { BegunBehind }
 {}

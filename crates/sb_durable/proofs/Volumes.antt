@@ -1,0 +1,109 @@
+-- What records make, where some of them are of a volume that takes the place of the one before.
+use Rattle.std.proofs.Common.{◌≡◌, ℕ, ◌==◌, ◌&&◌, if◌then◌else◌, Bool, true, false, List, [], ◌∷◌, ◌++◌, Option, Some, None, IsTrue, refl, ap, sym, ◌∙◌, inl, inr, true≢false, append-nil}
+use Rattle.std.specs.List.{AllByRecursion, cons_option}
+use Rattle.std.specs.Prelude.{map, option_map}
+use Rattle.std.proofs.lemmas.List.Elements.{filter_map-append}
+use Rattle.sb_durable.specs.Records.{Entry as Record}
+use Rattle.sb_durable.specs.Restart as restart
+use Rattle.sb_durable.specs.VolumeRecords.{Deed, steps, turns, volume_deed_of, own_deed, own_deeds, drafted, volume, after_step, after_deed, after_deeds, OlderAreOfNoUse, DraftsAreNothing, VolumesStand, SessionsAlone, OldSegmentsCanGo}
+use Rattle.sb_tenant.specs.Limits.{is_session}
+use Rattle.sb_tenant.specs.State.{State, opening}
+use Rattle.sb_tenant.specs.Trail.{state_after}
+
+module _ (bound t : ℕ) where
+  abbrev run : State × Option State → List Deed → State × Option State
+  run p deeds = after_deeds bound t p deeds
+
+  joined : (p : State × Option State) (xs ys : List Deed) → run p (xs ++ ys) ≡ run (run p xs) ys
+  joined p [] ys = refl
+  joined p (d ∷ ds) ys = joined (after_deed bound t p d) ds ys
+
+  -- the next volume grows by its own steps alone
+  grows : (state next : State) (script : List (ℕ × List ℕ)) → run (state, Some next) (drafted script) ≡ (state, Some (state_after t bound next script))
+  grows state next [] = refl
+  grows state next (e ∷ es) = grows state (after_step bound t next e.0 e.1) es
+
+  -- a whole volume makes what its script makes, whatever stood before
+  turned : (p : State × Option State) (script : List (ℕ × List ℕ)) (back : List Deed) → run p (volume script ++ back) ≡ run (state_after t bound opening script, None) back
+  turned p script back =
+      joined p (volume script) back
+      ∙ ap (λ (q : State × Option State). run q back) (joined (p.0, Some opening) (drafted script) (turns ∷ []) ∙ ap (λ (q : State × Option State). after_deed bound t q turns) (grows p.0 opening script))
+
+  renewed : (p q : State × Option State) (front back : List Deed) (script : List (ℕ × List ℕ)) → run p (front ++ (volume script ++ back)) ≡ run q (front ++ (volume script ++ back))
+  renewed p q front back script =
+      joined p front (volume script ++ back)
+      ∙ turned (run p front) script back
+      ∙ sym (joined q front (volume script ++ back) ∙ turned (run q front) script back)
+
+  made-append : (records more : List Record) → run (opening, None) (own_deeds t (records ++ more)) ≡ run (run (opening, None) (own_deeds t records)) (own_deeds t more)
+  made-append records more =
+      ap (run (opening, None)) (filter_map-append (own_deed t) records more) ∙ joined (opening, None) (own_deeds t records) (own_deeds t more)
+
+  pub older_are_of_no_use_to : OlderAreOfNoUse bound t
+  older_are_of_no_use_to older newer has =
+      ap (λ (p : State × Option State). p.0) (
+      made-append older newer
+      ∙ ap (run (run (opening, None) (own_deeds t older))) has.split
+      ∙ renewed (run (opening, None) (own_deeds t older)) (opening, None) has.front has.back has.script
+      ∙ ap (run (opening, None)) (sym has.split)
+      )
+
+  pub drafts_are_nothing_to : DraftsAreNothing bound t
+  drafts_are_nothing_to records more is =
+      let p = run (opening, None) (own_deeds t records) in
+      ap (λ (q : State × Option State). q.0) (made-append records more ∙ ap (run p) is.whole ∙ grows p.0 opening is.script)
+
+  pub volumes_stand_of : VolumesStand bound t
+  volumes_stand_of records more script is =
+      let p = run (opening, None) (own_deeds t records) in
+      ap (λ (q : State × Option State). q.0) (made-append records more ∙ ap (run p) (is ∙ sym (append-nil (volume script))) ∙ turned p script [])
+
+pub older_are_of_no_use : (bound t : ℕ) → OlderAreOfNoUse bound t
+older_are_of_no_use bound t = older_are_of_no_use_to bound t
+
+pub drafts_are_nothing : (bound t : ℕ) → DraftsAreNothing bound t
+drafts_are_nothing bound t = drafts_are_nothing_to bound t
+
+pub volumes_stand : (bound t : ℕ) → VolumesStand bound t
+volumes_stand bound t = volumes_stand_of bound t
+
+-- ---- records of sessions alone
+
+abbrev stepped : ℕ × List ℕ → Deed
+stepped e = steps e.0 e.1
+
+by_tests : (own session : Bool) (s : ℕ) (line : List ℕ) (other : Option Deed) → IsTrue session
+    → (if own then (if session then Some (steps s line) else other) else None) ≡ option_map stepped (if own && session then Some (s, line) else None)
+by_tests true true s line other sure = refl
+by_tests false true s line other sure = refl
+by_tests true false s line other sure = absurd (true≢false (sym sure))
+by_tests false false s line other sure = absurd (true≢false (sym sure))
+
+cons_stepped : (found : Option (ℕ × List ℕ)) (rest : List (ℕ × List ℕ)) → cons_option (option_map stepped found) (map stepped rest) ≡ map stepped (cons_option found rest)
+cons_stepped None rest = refl
+cons_stepped (Some e) rest = refl
+
+own_steps : (t : ℕ) (records : List Record) → AllByRecursion (λ r. IsTrue (is_session r.session)) records → own_deeds t records ≡ map stepped (restart.own_records t records)
+own_steps t [] all = refl
+own_steps t (r ∷ rs) all =
+    (λ i. cons_option (by_tests (t == r.tenant) (is_session r.session) r.session r.line (volume_deed_of r) all.0 i) (own_steps t rs all.1 i))
+    ∙ cons_stepped (restart.own_record t r) (restart.own_records t rs)
+
+after_steps : (bound t : ℕ) (state : State) (es : List (ℕ × List ℕ)) → after_deeds bound t (state, None) (map stepped es) ≡ (state_after t bound state es, None)
+after_steps bound t state [] = refl
+after_steps bound t state (e ∷ es) = after_steps bound t (after_step bound t state e.0 e.1) es
+
+pub sessions_alone : (bound t : ℕ) → SessionsAlone bound t
+sessions_alone bound t records all =
+    ap (λ (p : State × Option State). p.0) (
+    ap (λ (ds : List Deed). after_deeds bound t (opening, None) ds) (own_steps t records all)
+    ∙ after_steps bound t opening (restart.own_records t records)
+    )
+
+-- ---- segments
+
+pub old_segments_can_go : OldSegmentsCanGo
+old_segments_can_go bound hosts older newer none t hosted = elim (none t hosted) [
+  | inl nothing ↦ ap (λ (p : State × Option State). p.0) (made-append bound t older newer ∙ ap (λ (ds : List Deed). after_deeds bound t (after_deeds bound t (opening, None) ds) (own_deeds t newer)) nothing)
+  | inr has ↦ older_are_of_no_use bound t older newer has
+]

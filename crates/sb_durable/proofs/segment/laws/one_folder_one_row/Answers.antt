@@ -1,0 +1,5 @@
+use Rattle.sb_durable.proofs.Rows as rows
+use Rattle.sb_durable.proofs.segment.laws.one_folder_one_row.Goals as goal
+
+pub returns : goal.returns
+returns c = rows.one_folder_one_row
