@@ -21,6 +21,7 @@ pub mod Chain
 pub mod Segment
 pub mod SegmentEnds
 pub mod Row
+pub mod RowFaults
 pub mod VolumeRecords
 pub mod JournaledRuns
 pub mod JournalFaults

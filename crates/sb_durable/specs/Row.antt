@@ -12,18 +12,22 @@ pub record Filed : Type 0 where
 abbrev pub binding : Filed → ℕ
 binding one = last_digest one.head one.contents
 
--- It has the next number, the digest at the other one's end, and its settings.
-pub record IsNext (one next : Filed) : Type 0 where
-  pub number : next.head.number ≡ one.head.number + 1
-  pub before : next.head.before ≡ binding one
-  pub settings : next.head.settings ≡ one.head.settings
+-- A head goes on where that segment ends: it has the next number, the digest at the end, and the same settings.
+pub record IsNext (one : Filed) (next : Head) : Type 0 where
+  pub number : next.number ≡ one.head.number + 1
+  pub before : next.before ≡ binding one
+  pub settings : next.settings ≡ one.head.settings
+
+-- the head of the segment behind one with this head and this digest at its end
+abbrev pub next_head : Head → ℕ → Head
+next_head head end = record { number = head.number + 1; before = end; settings = head.settings }
 
 -- ---- a row
 
 -- the first of these goes on where that one ends
 abbrev pub Continue : Filed → List Filed → Type 0
 Continue one [] = Unit {0}
-Continue one (next ∷ more) = IsNext one next
+Continue one (next ∷ more) = IsNext one next.head
 
 -- the oldest stands first
 abbrev pub IsRow : List Filed → Type 0

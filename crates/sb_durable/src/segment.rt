@@ -7,10 +7,12 @@ pub mod laws;
 mod opening;
 mod place;
 mod repair;
+mod row;
 mod segment;
 mod walk;
 
 pub use error::SegmentError;
 pub use place::Place;
+pub use row::RowFault;
 pub use segment::Segment;
 pub use sqlite_disk::Disk;
