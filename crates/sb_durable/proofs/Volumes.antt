@@ -1,14 +1,20 @@
 -- What records make, where some of them are of a volume that takes the place of the one before.
-use Rattle.std.proofs.Common.{◌≡◌, ℕ, ◌==◌, ◌&&◌, if◌then◌else◌, Bool, true, false, List, [], ◌∷◌, ◌++◌, Option, Some, None, IsTrue, refl, ap, sym, ◌∙◌, inl, inr, true≢false, append-nil}
+use Rattle.std.proofs.Common.{◌≡◌, ℕ, ◌==◌, ◌&&◌, if◌then◌else◌, Bool, true, false, List, [], ◌∷◌, ◌++◌, Option, Some, None, IsTrue, refl, ap, sym, ◌∙◌, inl, inr, true≢false, append-nil, subst, arith, ◌+◌, ◌-◌, zero, suc, take}
 use Rattle.std.specs.List.{AllByRecursion, cons_option}
 use Rattle.std.specs.Prelude.{map, option_map}
+use Rattle.std.proofs.lemmas.Bool.{eq-eqb, le-ltb}
 use Rattle.std.proofs.lemmas.List.Elements.{filter_map-append}
 use Rattle.sb_durable.specs.Records.{Entry as Record}
 use Rattle.sb_durable.specs.Restart as restart
-use Rattle.sb_durable.specs.VolumeRecords.{Deed, steps, turns, volume_deed_of, own_deed, own_deeds, drafted, volume, after_step, after_deed, after_deeds, OlderAreOfNoUse, DraftsAreNothing, VolumesStand, SessionsAlone, OldSegmentsCanGo}
-use Rattle.sb_tenant.specs.Limits.{is_session}
+use Rattle.sb_durable.specs.Recording.{played}
+use Rattle.sb_durable.specs.VolumeRecords.{Deed, steps, begins, drafts, turns, record_of_deed, opening_steps, renewal_records, RenewalsAreVolumes, RenewalsStand, volume_deed_of, own_deed, own_deeds, drafted, volume, after_step, after_deed, after_deeds, OlderAreOfNoUse, DraftsAreNothing, VolumesStand, SessionsAlone, OldSegmentsCanGo}
+use Rattle.sb_durable.proofs.Replaying.{one, make_the_state}
+use Rattle.sb_tenant.specs.declared.reply.Entry.{Entry}
+use Rattle.sb_tenant.specs.Limits.{is_session, session_count}
 use Rattle.sb_tenant.specs.State.{State, opening}
-use Rattle.sb_tenant.specs.Trail.{state_after}
+use Rattle.sb_tenant.specs.Tenant as tenant
+use Rattle.sb_tenant.specs.Tenant.{Tenant}
+use Rattle.sb_tenant.specs.Trail.{IsLegal, replayed, state_after}
 
 module _ (bound t : ℕ) where
   abbrev run : State × Option State → List Deed → State × Option State
@@ -107,3 +113,68 @@ old_segments_can_go bound hosts older newer none t hosted = elim (none t hosted)
   | inl nothing ↦ ap (λ (p : State × Option State). p.0) (made-append bound t older newer ∙ ap (λ (ds : List Deed). after_deeds bound t (after_deeds bound t (opening, None) ds) (own_deeds t newer)) nothing)
   | inr has ↦ older_are_of_no_use bound t older newer has
 ]
+
+-- ---- what is written is read
+
+by_draft : (own past here : Bool) (x y z : Option Deed) → own ≡ true → past ≡ false → here ≡ true → (if own then (if past then x else (if here then y else z)) else None) ≡ y
+by_draft true false true x y z owned passed there = refl
+by_draft false past here x y z owned passed there = absurd (true≢false (sym owned))
+by_draft true true here x y z owned passed there = absurd (true≢false passed)
+by_draft true false false x y z owned passed there = absurd (true≢false (sym there))
+
+by_mark : (own : Bool) (d : Deed) → own ≡ true → (if own then Some d else None) ≡ Some d
+by_mark true d is = refl
+by_mark false d is = absurd (true≢false (sym is))
+
+module _ (t : ℕ) where
+  itself : (t == t) ≡ true
+  itself = eq-eqb t t refl
+
+  read_draft : (s : ℕ) (line : List ℕ) → IsTrue (is_session s) → own_deed t (record_of_deed t (drafts s line)) ≡ Some (drafts s line)
+  read_draft s line sure =
+      let back : session_count + s - session_count ≡ s = omega arith in
+      by_draft (t == t) (is_session (session_count + s)) (is_session (session_count + s - session_count)) _ (Some (drafts (session_count + s - session_count) line)) _
+      itself (le-ltb (session_count + s) session_count (omega arith)) (ap is_session back ∙ sure)
+      ∙ ap (λ (n : ℕ). Some (drafts n line)) back
+
+  read_script : (script : List (ℕ × List ℕ)) → AllByRecursion (λ e. IsTrue (is_session e.0)) script
+      → own_deeds t (map (record_of_deed t) (drafted script ++ turns ∷ [])) ≡ drafted script ++ turns ∷ []
+  read_script [] all = ap (λ (d : Option Deed). cons_option d []) (by_mark (t == t) turns itself)
+  read_script (e ∷ es) all = λ i. cons_option (read_draft e.0 e.1 all.0 i) (read_script es all.1 i)
+
+  read_volume : (script : List (ℕ × List ℕ)) → AllByRecursion (λ e. IsTrue (is_session e.0)) script → own_deeds t (map (record_of_deed t) (volume script)) ≡ volume script
+  read_volume script all = λ i. cons_option (by_mark (t == t) begins itself i) (read_script script all i)
+
+-- ---- the opening of a legal trail
+
+module _ (t bound : ℕ) where
+  front_legal : (n : ℕ) (before after : State) (trail : List Entry) → IsLegal t bound before trail after → IsLegal t bound before (take n trail) (replayed t bound before (take n trail))
+  front_legal zero before after trail legal = refl
+  front_legal (suc n) before after [] legal = refl
+  front_legal (suc n) before after (e ∷ trail) (mid, next, legal) = (
+    mid,
+    next,
+    subst (λ (st : State). IsLegal t bound mid (take n trail) (replayed t bound st (take n trail))) (sym (one t bound before mid e next.1).1) (front_legal n mid after trail legal),
+  )
+
+  by_sessions : (before after : State) (trail : List Entry) → IsLegal t bound before trail after → AllByRecursion (λ e. IsTrue (is_session e.0)) (map played trail)
+  by_sessions before after [] legal = tt
+  by_sessions before after (e ∷ trail) (mid, next, legal) = (next.0, by_sessions mid after trail legal)
+
+opening_read : (own : Tenant) → tenant.IsLegal own → own_deeds own.id (renewal_records own) ≡ volume (opening_steps own)
+opening_read own legal =
+    read_volume own.id (opening_steps own)
+    (by_sessions own.id own.bound opening _ (take own.volume.opening own.trail) (front_legal own.id own.bound own.volume.opening opening _ own.trail legal))
+
+pub renewals_stand : RenewalsStand
+renewals_stand own legal records =
+    volumes_stand own.bound own.id records (renewal_records own) (opening_steps own) (opening_read own legal)
+    ∙ make_the_state own.id own.bound (take own.volume.opening own.trail) (front_legal own.id own.bound own.volume.opening opening _ own.trail legal)
+
+pub renewals_are_volumes : RenewalsAreVolumes
+renewals_are_volumes own legal newer = record {
+  front = [];
+  script = opening_steps own;
+  back = own_deeds own.id newer;
+  split = filter_map-append (own_deed own.id) (renewal_records own) newer ∙ ap (λ (ds : List Deed). ds ++ own_deeds own.id newer) (opening_read own legal);
+}

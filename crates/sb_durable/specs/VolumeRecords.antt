@@ -1,12 +1,14 @@
 -- Promise: what the records of a tenant make of it, where some of them are of a volume that takes the place of the one before.
-use Rattle.std.specs.Prelude.{◌≡◌, ◌⊎◌, ℕ, ◌+◌, ◌-◌, ◌==◌, if◌then◌else◌, List, [], ◌∷◌, ◌++◌, map, filter_map, Option, Some, None, option_map, unwrap_or, IsTrue, Bool}
+use Rattle.std.specs.Prelude.{◌≡◌, ◌⊎◌, ℕ, ◌+◌, ◌-◌, ◌==◌, if◌then◌else◌, List, [], ◌∷◌, ◌++◌, map, filter_map, take, Option, Some, None, option_map, unwrap_or, IsTrue, Bool}
 use Rattle.std.specs.List.{AllByRecursion}
 use Rattle.sb_durable.specs.Records.{Entry as Record}
+use Rattle.sb_durable.specs.Recording.{played}
 use Rattle.sb_durable.specs.Restart as restart
 use Rattle.sb_tenant.specs.Limits.{session_count, is_session}
 use Rattle.sb_tenant.specs.State.{State, opening}
 use Rattle.sb_tenant.specs.Step.{step}
-use Rattle.sb_tenant.specs.Trail.{state_after}
+use Rattle.sb_tenant.specs.Tenant.{Tenant, IsLegal}
+use Rattle.sb_tenant.specs.Trail.{state_after, state_of}
 
 -- ---- what a record says of its tenant
 
@@ -107,3 +109,23 @@ abbrev pub OldSegmentsCanGo : Type 0
 OldSegmentsCanGo =
     (bound : ℕ) (hosts : ℕ → Bool) (older newer : List Record) → ((t : ℕ) → IsTrue (hosts t) → IsOfNoUse t older newer)
     → (t : ℕ) → IsTrue (hosts t) → made_of bound t (older ++ newer) ≡ made_of bound t newer
+
+-- ---- what a renewal is recorded as
+
+-- the steps of the opening of a tenant's volume
+abbrev pub opening_steps : Tenant → List (ℕ × List ℕ)
+opening_steps own = map played (take own.volume.opening own.trail)
+
+-- A renewed tenant's opening is recorded as a whole volume.
+abbrev pub renewal_records : Tenant → List Record
+renewal_records own = map (record_of_deed own.id) (volume (opening_steps own))
+
+-- Whatever stands before them, they make the very tenant that took the place of the old one.
+abbrev pub RenewalsStand : Type 0
+RenewalsStand =
+    (own : Tenant) → IsLegal own → (records : List Record)
+    → made_of own.bound own.id (records ++ renewal_records own) ≡ state_of own.id own.bound (take own.volume.opening own.trail)
+
+-- With them among its records, a tenant needs none before them.
+abbrev pub RenewalsAreVolumes : Type 0
+RenewalsAreVolumes = (own : Tenant) → IsLegal own → (newer : List Record) → HasVolume own.id (renewal_records own ++ newer)

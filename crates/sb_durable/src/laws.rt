@@ -2,7 +2,7 @@
 ghost use Rattle.std.specs.Prelude.{ℕ};
 ghost use Rattle.sb_durable.specs.RecordedLives.{RecordsAreTheSteps};
 ghost use Rattle.sb_durable.specs.Recording.{RecordsMakeTheState};
-ghost use Rattle.sb_durable.specs.VolumeRecords.{DraftsAreNothing, OldSegmentsCanGo, OlderAreOfNoUse, SessionsAlone, VolumesStand};
+ghost use Rattle.sb_durable.specs.VolumeRecords.{DraftsAreNothing, OldSegmentsCanGo, OlderAreOfNoUse, RenewalsAreVolumes, RenewalsStand, SessionsAlone, VolumesStand};
 
 /// The lines that a legal trail is recorded as make its state again, from the opening state on.
 pub fn records_make_the_state()
@@ -38,4 +38,14 @@ pub fn sessions_alone()
 /// Segments can go whose records no tenant needs.
 pub fn old_segments_can_go()
     ensures { OldSegmentsCanGo }
+{}
+
+/// What a renewal is recorded as makes the very tenant that took the place of the old one.
+pub fn renewals_stand()
+    ensures { RenewalsStand }
+{}
+
+/// With a renewal among its records, a tenant needs none before it.
+pub fn renewals_are_volumes()
+    ensures { RenewalsAreVolumes }
 {}
