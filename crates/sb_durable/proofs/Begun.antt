@@ -1,5 +1,5 @@
 -- What a crash leaves while a segment is begun.
-use Rattle.std.proofs.Common.{◌≡◌, ◌⊎◌, ℕ, ◌+◌, ◌<◌, ◌≤◌, List, [], ◌∷◌, ◌++◌, true, length, get_or, take, drop, ◌-◌, refl, sym, ◌∙◌, ap, subst, inl, inr, arith, append-nil, ◌≢◌}
+use Rattle.std.proofs.Common.{◌≡◌, ◌⊎◌, ℕ, ◌+◌, ◌<◌, ◌≤◌, List, [], ◌∷◌, ◌++◌, true, length, get_or, take, drop, ◌-◌, refl, sym, ◌∙◌, ap, subst, inl, inr, arith, append-nil}
 use Rattle.std.proofs.lemmas.Bool.{cases_eq}
 use Rattle.std.proofs.lemmas.List.{drop_all, take_at}
 use Rattle.sqlite_disk.specs.Disk.{Holds, Torn, Cut, Only}
@@ -27,32 +27,22 @@ marked_cut : (gate : ℕ) (rest old c : List ℕ) → old ≡ gate ∷ (mark ++ 
 marked_cut gate rest old c is cut = cut_front old (gate ∷ mark) rest c 8 is (omega arith) cut
 
 pub left_cut : (old c : List ℕ) → IsShut old → Cut 8 old c → IsUnbegun c
-left_cut old c shut cut = inr (shut.gate, drop 8 c, inl shut.shut, marked_cut shut.gate shut.rest old c shut.whole cut)
+left_cut old c shut cut = inr (record { gate = shut.gate; rest = drop 8 c; shut = shut.shut; whole = marked_cut shut.gate shut.rest old c shut.whole cut })
 
 pub cut_ready : (old c : List ℕ) → IsShut old → Cut 8 old c → length c ≡ 8 → IsReady c
 cut_ready old c shut cut size =
     record { gate = shut.gate; shut = shut.shut; whole = marked_cut shut.gate shut.rest old c shut.whole cut ∙ ap (λ (l : List ℕ). shut.gate ∷ (mark ++ l)) (drop_all 8 c (omega (arith, size))) }
 
--- a gate that isn't open
-pub shut_there : (old : List ℕ) → 8 < length old → IsUnbegun old → get_or old 0 0 ≢ 70 → IsShut old
-shut_there old long (inl short) shut = absurd (omega (arith, short, long))
-shut_there old long (inr (gate, rest, _, is)) shut = record { gate = gate; rest = rest; shut = λ one. shut (ap (λ (l : List ℕ). get_or l 0 0) is ∙ one); whole = is }
-
--- while an open gate is shut
-pub left_shut : (old c : List ℕ) → 8 < length old → IsUnbegun old → get_or old 0 0 ≡ 70 → Torn 0 1 old c → IsUnbegun c
-left_shut old c long (inl short) opened torn = absurd (omega (arith, short, long))
-left_shut old c long (inr (gate, rest, inl shut, is)) opened torn = absurd (shut (ap (λ (l : List ℕ). get_or l 0 0) (sym is) ∙ opened))
-left_shut old c long (inr (gate, rest, inr cut, is)) opened torn = inr (get_or c 0 0, rest, inr cut, torn_byte old [] (mark ++ rest) c gate is torn)
-
-pub shut_now : (old c : List ℕ) → 8 < length old → IsUnbegun old → Torn 0 1 old c → Holds c 0 (0 ∷ []) → IsShut c
-shut_now old c long (inl short) torn holds = absurd (omega (arith, short, long))
-shut_now old c long (inr (gate, rest, _, is)) torn holds =
-    record { gate = 0; rest = rest; shut = omega arith; whole = torn_byte old [] (mark ++ rest) c gate is torn ∙ ap (λ (g : ℕ). g ∷ (mark ++ rest)) (holds.each 0 (omega arith)) }
+-- a file that has more has its mark, behind a gate that isn't open
+pub shut_there : (old : List ℕ) → 8 < length old → IsUnbegun old → IsShut old
+shut_there old long (inl short) = absurd (omega (arith, short, long))
+shut_there old long (inr shut) = shut
 
 module _ (old bytes rest : List ℕ) (ready : IsReady old) (are : bytes ≡ 70 ∷ (mark ++ rest)) where
   -- while a head is written behind the mark
   pub left_head : (n : ℕ) (c : List ℕ) → Torn 8 n old c → IsUnbegun c
-  left_head n c torn = inr (ready.gate, drop 8 c, inl ready.shut, torn_front old (ready.gate ∷ mark) [] c 8 n ready.whole (omega arith) torn)
+  left_head n c torn =
+      inr (record { gate = ready.gate; rest = drop 8 c; shut = ready.shut; whole = torn_front old (ready.gate ∷ mark) [] c 8 n ready.whole (omega arith) torn })
 
   tail_is : take (length bytes - 8) (drop 8 bytes) ≡ rest
   tail_is =
@@ -76,7 +66,7 @@ module _ (old bytes rest : List ℕ) (ready : IsReady old) (are : bytes ≡ 70 �
   pub left_head_gate : (mid c : List ℕ) → mid ≡ ready.gate ∷ (mark ++ rest) → Torn 0 1 mid c → IsUnbegun c ⊎ (c ≡ bytes)
   left_head_gate mid c is torn = elim (cases_eq (get_or c 0 0) 70) [
     | inl opened ↦ inr (head_torn mid c is torn ∙ ap (λ (g : ℕ). g ∷ (mark ++ rest)) opened ∙ sym are)
-    | inr shut ↦ inl (inr (get_or c 0 0, rest, inl shut, head_torn mid c is torn))
+    | inr shut ↦ inl (inr (record { gate = get_or c 0 0; rest = rest; shut = shut; whole = head_torn mid c is torn }))
   ]
 
   pub head_opened : (mid c : List ℕ) → mid ≡ ready.gate ∷ (mark ++ rest) → Torn 0 1 mid c → Holds c 0 (70 ∷ []) → c ≡ bytes

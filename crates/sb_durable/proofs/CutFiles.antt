@@ -2,7 +2,7 @@
 use Rattle.std.proofs.Common.{◌⊎◌, ℕ, ◌+◌, ◌-◌, ◌<◌, ◌≤◌, List, ◌∷◌, ◌++◌, length, take, refl, ◌∙◌, ap, inl, inr, arith}
 use Rattle.std.specs.Int.{w32, w64, to_be_bytes}
 use Rattle.std.proofs.lemmas.Bool.{cases_lt}
-use Rattle.sb_durable.specs.Head.{Head, IsUnbegun, mark, head_bytes, head_digest, Stands}
+use Rattle.sb_durable.specs.Head.{Head, IsUnbegun, IsCutHead, mark, head_bytes, head_digest, Stands}
 use Rattle.sb_durable.specs.Chain.{CutFilesStand}
 use Rattle.sb_durable.proofs.Heads.{length-head}
 use Rattle.sb_durable.proofs.SegmentShortened.{shortened, take_behind, few_of}
@@ -19,19 +19,21 @@ module _ (head : Head) (contents : List (List ℕ)) (file : List ℕ) (n : ℕ) 
   abbrev behind_mark : List ℕ
   behind_mark = to_be_bytes w64 head.number ++ (to_be_bytes w64 head.before ++ (to_be_bytes w32 (length head.settings) ++ (head.settings ++ to_be_bytes w64 (head_digest head) ++ stands.rest)))
 
-  cut_numbers : 8 < n → n < 28 → IsUnbegun (take n file)
+  cut_numbers : 8 < n → n < 28 → IsCutHead (take n file)
   cut_numbers more less =
-      inr (70, take (n - 8) behind_mark, inr (inl (omega (arith, few_of (n - 8) behind_mark, more, less))), ap (λ (l : List ℕ). take n l) stands.whole ∙ take_behind (70 ∷ mark) behind_mark (n - 8) n (omega (arith, more)))
+      record {
+        rest = take (n - 8) behind_mark;
+        cut = inl (omega (arith, few_of (n - 8) behind_mark, more, less));
+        whole = ap (λ (l : List ℕ). take n l) stands.whole ∙ take_behind (70 ∷ mark) behind_mark (n - 8) n (omega (arith, more));
+      }
 
-  cut_settings : 28 ≤ n → n < 36 + length head.settings → IsUnbegun (take n file)
+  cut_settings : 28 ≤ n → n < 36 + length head.settings → IsCutHead (take n file)
   cut_settings more less =
-      let left = take (n - 28) others in
-      inr (
-        70,
-        to_be_bytes w64 head.number ++ (to_be_bytes w64 head.before ++ (to_be_bytes w32 (length head.settings) ++ take (n - 28) others)),
-        inr (inr (head.number, head.before, length head.settings, take (n - 28) others, stands.fits.2, omega (arith, few_of (n - 28) others, more, less), refl)),
-        ap (λ (l : List ℕ). take n l) stands.whole ∙ take_behind (fields head) others (n - 28) n (omega (arith, more)),
-      )
+      record {
+        rest = to_be_bytes w64 head.number ++ (to_be_bytes w64 head.before ++ (to_be_bytes w32 (length head.settings) ++ take (n - 28) others));
+        cut = inr (head.number, head.before, length head.settings, take (n - 28) others, stands.fits.2, omega (arith, few_of (n - 28) others, more, less), refl);
+        whole = ap (λ (l : List ℕ). take n l) stands.whole ∙ take_behind (fields head) others (n - 28) n (omega (arith, more));
+      }
 
   cut_blocks : 36 + length head.settings ≤ n → (k : ℕ) × Stands head (take k contents) (take n file)
   cut_blocks more =
@@ -46,14 +48,14 @@ module _ (head : Head) (contents : List (List ℕ)) (file : List ℕ) (n : ℕ) 
         },
       )
 
-  pub cut_anywhere : IsUnbegun (take n file) ⊎ ((k : ℕ) × Stands head (take k contents) (take n file))
+  pub cut_anywhere : IsUnbegun (take n file) ⊎ (IsCutHead (take n file) ⊎ ((k : ℕ) × Stands head (take k contents) (take n file)))
   cut_anywhere = elim (cases_lt n 9) [
     | inl few ↦ inl (inl (omega (arith, few, few_of n file)))
     | inr more ↦ elim (cases_lt n 28) [
-      | inl less ↦ inl (cut_numbers (omega (arith, more)) less)
+      | inl less ↦ inr (inl (cut_numbers (omega (arith, more)) less))
       | inr many ↦ elim (cases_lt n (36 + length head.settings)) [
-        | inl less ↦ inl (cut_settings many less)
-        | inr all ↦ inr (cut_blocks all)
+        | inl less ↦ inr (inl (cut_settings many less))
+        | inr all ↦ inr (inr (cut_blocks all))
       ]
     ]
   ]

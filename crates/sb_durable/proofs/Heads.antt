@@ -2,7 +2,7 @@
 use Rattle.std.proofs.Common.{◌≡◌, ◌≢◌, ℕ, ◌+◌, ◌<◌, ◌≤◌, ◌^◌, List, [], ◌∷◌, ◌++◌, length, get_or, drop, refl, sym, ◌∙◌, ap, subst, inl, inr, arith, length-append, append_assoc}
 use Rattle.std.specs.Int.{w32, w64, to_be_bytes}
 use Rattle.sqlite_disk.specs.Disk.{Holds}
-use Rattle.sb_durable.specs.Head.{Head, IsHead, IsHeadCut, IsUnbegun, head_text, head_bytes, head_digest, mark}
+use Rattle.sb_durable.specs.Head.{Head, IsHead, IsHeadCut, IsCutHead, IsUnbegun, head_text, head_bytes, head_digest, mark}
 use Rattle.sb_durable.proofs.Finding.{held_front}
 use Rattle.sb_durable.proofs.SegmentReading.{same_parts, same_word, same_number, one_head}
 
@@ -18,7 +18,8 @@ marked file (g ∷ []) found holds one behind is =
 marked file (g ∷ h ∷ gate) found holds one behind is = absurd (omega (arith, one))
 
 pub unbegun : (file gate found : List ℕ) → Holds file 0 gate → length gate ≡ 1 → Holds file 1 found → found ≡ mark → get_or gate 0 0 ≢ 70 → IsUnbegun file
-unbegun file gate found holds one behind is shut = inr (get_or gate 0 0, drop 8 file, inl shut, marked file gate found holds one behind is)
+unbegun file gate found holds one behind is shut =
+    inr (record { gate = get_or gate 0 0; rest = drop 8 file; shut = shut; whole = marked file gate found holds one behind is })
 
 -- the parts of a head that are read one after the other
 pub head_there : (file settings : List ℕ) (number before size own : ℕ) → file ≡ 70 ∷ (mark ++ drop 8 file) → drop 8 file ≡ to_be_bytes w64 number ++ drop 16 file → drop 16 file ≡ to_be_bytes w64 before ++ drop 24 file
@@ -52,14 +53,14 @@ pub moved : (file later bytes : List ℕ) (at end : ℕ) → later ≡ file → 
 moved file later bytes at end same is = subst (λ (f : List ℕ). drop at f ≡ bytes ++ drop end f) same is
 
 -- a head that is cut short before its settings, or within them
-pub cut_before : (file : List ℕ) → file ≡ 70 ∷ (mark ++ drop 8 file) → length file < 28 → IsUnbegun file
-cut_before file is short = inr (70, drop 8 file, inr (inl (omega (arith, ap length is, short))), is)
+pub cut_before : (file : List ℕ) → file ≡ 70 ∷ (mark ++ drop 8 file) → length file < 28 → IsCutHead file
+cut_before file is short = record { rest = drop 8 file; cut = inl (omega (arith, ap length is, short)); whole = is }
 
 pub cut_within : (file : List ℕ) (number before size : ℕ) → file ≡ 70 ∷ (mark ++ drop 8 file) → drop 8 file ≡ to_be_bytes w64 number ++ drop 16 file → drop 16 file ≡ to_be_bytes w64 before ++ drop 24 file
-    → drop 24 file ≡ to_be_bytes w32 size ++ drop 28 file → size ≤ 4096 → length (drop 28 file) < size + 8 → IsUnbegun file
+    → drop 24 file ≡ to_be_bytes w32 size ++ drop 28 file → size ≤ 4096 → length (drop 28 file) < size + 8 → IsCutHead file
 cut_within file number before size is numbers befores sizes small less =
     let parts = numbers ∙ ap (λ (l : List ℕ). to_be_bytes w64 number ++ l) (befores ∙ ap (λ (l : List ℕ). to_be_bytes w64 before ++ l) sizes) in
-    inr (70, drop 8 file, inr (inr (number, before, size, drop 28 file, small, less, parts)), is)
+    record { rest = drop 8 file; cut = inr (number, before, size, drop 28 file, small, less, parts); whole = is }
 
 no_head_cut : (head : Head) (rest behind : List ℕ) → IsHead head → IsHeadCut rest → rest ≡ to_be_bytes w64 head.number ++ (to_be_bytes w64 head.before ++ (to_be_bytes w32 (length head.settings) ++ (head.settings ++ behind))) → 8 ≤ length behind → ⊥
 no_head_cut head rest behind fits (inl short) is long = absurd (omega (arith, short, ap length is))
@@ -73,9 +74,12 @@ no_head_cut head rest behind fits (inr (number, before, size, cut, small, less, 
 -- a file with a whole head has begun
 pub has_begun : (head : Head) (rest file : List ℕ) → IsHead head → file ≡ head_bytes head ++ rest → IsUnbegun file → ⊥
 has_begun head rest file fits is (inl short) = absurd (omega (arith, short, ap length is, length-append (head_bytes head) rest, length-head head))
-has_begun head rest file fits is (inr (gate, others, inl shut, whole)) = shut (ap (λ (l : List ℕ). get_or l 0 0) (sym whole ∙ is))
-has_begun head rest file fits is (inr (gate, others, inr cut, whole)) =
+has_begun head rest file fits is (inr shut) = shut.shut (ap (λ (l : List ℕ). get_or l 0 0) (sym shut.whole ∙ is))
+
+-- nor does it end within its head
+pub not_cut : (head : Head) (rest file : List ℕ) → IsHead head → file ≡ head_bytes head ++ rest → IsCutHead file → ⊥
+not_cut head rest file fits is short =
     let own = to_be_bytes w64 (head_digest head) ++ rest in
-    no_head_cut head others own fits cut
-    (ap (λ (l : List ℕ). drop 8 l) (sym whole ∙ is ∙ append_assoc (head_text head) (to_be_bytes w64 (head_digest head)) rest))
+    no_head_cut head short.rest own fits short.cut
+    (ap (λ (l : List ℕ). drop 8 l) (sym short.whole ∙ is ∙ append_assoc (head_text head) (to_be_bytes w64 (head_digest head)) rest))
     (omega (arith, length-append (to_be_bytes w64 (head_digest head)) rest))

@@ -1,7 +1,7 @@
 -- Promise: one digest at the end binds a whole segment.
 use Rattle.std.specs.Prelude.{◌≡◌, ◌≢◌, ◌⊎◌, ℕ, List, [], ◌∷◌, take}
 use Rattle.sqlite_disk.specs.Digest.{digest}
-use Rattle.sb_durable.specs.Head.{Head, IsHead, IsUnbegun, head_digest, last_digest, Stands}
+use Rattle.sb_durable.specs.Head.{Head, IsHead, IsUnbegun, IsCutHead, head_digest, last_digest, Stands}
 use Rattle.sb_durable.specs.Segment.{Bears}
 use Rattle.sb_durable.specs.declared.segment.place.Place.{Place}
 
@@ -22,10 +22,10 @@ abbrev pub OneFileOneSegment : Type 0
 OneFileOneSegment = (file : List ℕ) (head other : Head) (contents others : List (List ℕ)) → Stands head contents file → Stands other others file
     → (head ≡ other) × (contents ≡ others)
 
--- a file that is cut at any byte has not begun, or it stands for the first contents
+-- a file that is cut at any byte has not begun, or ends within its head, or stands for the first contents
 abbrev pub CutFilesStand : Type 0
 CutFilesStand = (head : Head) (contents : List (List ℕ)) (file : List ℕ) (n : ℕ) → Stands head contents file
-    → IsUnbegun (take n file) ⊎ ((k : ℕ) × Stands head (take k contents) (take n file))
+    → IsUnbegun (take n file) ⊎ (IsCutHead (take n file) ⊎ ((k : ℕ) × Stands head (take k contents) (take n file)))
 
 -- these contents lie between two places, one behind the other, as they were read
 abbrev pub Leads : Place → List (List ℕ) → Place → Type 0

@@ -42,21 +42,27 @@ pub record Stands (head : Head) (contents : List (List ℕ)) (file : List ℕ) :
 abbrev pub IsBeforeOrAfter : Head → List (List ℕ) → List ℕ → List ℕ → Type 0
 IsBeforeOrAfter head contents content file = Stands head contents file ⊎ Stands head (contents ++ content ∷ []) file
 
--- Behind the mark the file ends within a head: it has less than its numbers, or less than the length of its settings says.
-abbrev pub IsHeadCut : List ℕ → Type 0
-IsHeadCut rest =
-    (length rest < 20) ⊎ ((number before size : ℕ) × (cut : List ℕ) × (size ≤ 4096) × (length cut < size + 8) × (rest ≡ to_be_bytes w64 number ++ (to_be_bytes w64 before ++ (to_be_bytes w32 size ++ cut))))
-
--- The file has not begun: it has eight bytes at most, or it has the mark, behind a gate that isn't open or before a head that is cut short.
-abbrev pub IsUnbegun : List ℕ → Type 0
-IsUnbegun file = (length file ≤ 8) ⊎ ((gate : ℕ) × (rest : List ℕ) × ((gate ≢ 70) ⊎ IsHeadCut rest) × (file ≡ gate ∷ (mark ++ rest)))
-
 -- the mark behind a gate that isn't open
 pub record IsShut (file : List ℕ) : Type 0 where
   pub gate : ℕ
   pub rest : List ℕ
   pub shut : gate ≢ 70
   pub whole : file ≡ gate ∷ (mark ++ rest)
+
+-- The file has not begun: it has eight bytes at most, or the mark behind a gate that isn't open.
+abbrev pub IsUnbegun : List ℕ → Type 0
+IsUnbegun file = (length file ≤ 8) ⊎ IsShut file
+
+-- Behind the mark the file ends within a head: it has less than its numbers, or less than the length of its settings says.
+abbrev pub IsHeadCut : List ℕ → Type 0
+IsHeadCut rest =
+    (length rest < 20) ⊎ ((number before size : ℕ) × (cut : List ℕ) × (size ≤ 4096) × (length cut < size + 8) × (rest ≡ to_be_bytes w64 number ++ (to_be_bytes w64 before ++ (to_be_bytes w32 size ++ cut))))
+
+-- The file has begun, and ends within its head. No crash leaves that: it is part of a copy, or a length in it has changed.
+pub record IsCutHead (file : List ℕ) : Type 0 where
+  pub rest : List ℕ
+  pub cut : IsHeadCut rest
+  pub whole : file ≡ 70 ∷ (mark ++ rest)
 
 -- the mark behind a gate that isn't open, and nothing behind it
 pub record IsReady (file : List ℕ) : Type 0 where

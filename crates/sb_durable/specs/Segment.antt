@@ -6,7 +6,7 @@ use Rattle.sqlite_disk.specs.Digest.{digest}
 use Rattle.sb_durable.specs.SegmentBlocks.{blocks, IsContent}
 use Rattle.sb_durable.specs.Head.{Head, IsHead, head_bytes, head_digest, last_digest, Stands}
 use Rattle.sb_durable.specs.declared.segment.error.SegmentError.{SegmentError}
-use Rattle.sb_durable.specs.declared.segment.error.SegmentError.TheVariants.{Damaged, NotBegun}
+use Rattle.sb_durable.specs.declared.segment.error.SegmentError.TheVariants.{Damaged, NotBegun, CutShort}
 use Rattle.sb_durable.specs.declared.segment.place.Place.{Place}
 use Rattle.sb_durable.specs.declared.segment.beginning.Beginning.{Beginning}
 use Rattle.sb_durable.specs.declared.segment.segment.Segment.{Segment}
@@ -42,10 +42,10 @@ pub record IsBehind (head : Head) (contents : List (List ℕ)) (place : Place) :
   pub at : place.at ≡ length (head_bytes head) + length (blocks (head_digest head) contents)
   pub chain : place.chain ≡ last_digest head contents
 
--- a file that is no segment's is refused: it isn't opened, and isn't called damaged or not begun
+-- a file that is no segment's is refused: it isn't opened, and isn't called damaged, not begun or cut short
 abbrev pub Refuses : {T : Type 0} → Result T SegmentError → Type 0
 Refuses (Ok value) = ⊥
-Refuses (Err error) = (error ≢ Damaged) × (error ≢ NotBegun)
+Refuses (Err error) = (error ≢ Damaged) × (error ≢ NotBegun) × (error ≢ CutShort)
 
 -- Between two places lies a block of this content, and its digest is that of the content under the one before.
 pub record Bears (place : Place) (content : List ℕ) (next : Place) : Type 0 where

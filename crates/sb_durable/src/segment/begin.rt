@@ -1,7 +1,7 @@
 //! A segment that is begun. The first byte of its file is a gate: what is behind it counts once it is an F.
 ghost use Rattle.std.specs.Prelude.{◌≡◌, ◌≢◌, ◌⊎◌, ◌++◌, [], ◌∷◌, ◌<◌, ◌≤◌, List, ℕ, length, IfOk, IfErr, OnOk, IsErr, IsTrue};
 ghost use Rattle.sqlite_disk.specs.Disk.{Only};
-ghost use Rattle.sb_durable.specs.Head.{Head, Stands, IsForeign, IsUnbegun, IsShut, IsReady, mark, head_bytes, head_digest};
+ghost use Rattle.sb_durable.specs.Head.{Head, Stands, IsCutHead, IsForeign, IsUnbegun, IsReady, mark, head_bytes, head_digest};
 ghost use Rattle.sb_durable.specs.Segment.{HasAll, IsBegun, device_of, head_of, head_in};
 
 use crate::segment::beginning::{Beginning, read_beginning};
@@ -39,6 +39,7 @@ impl<D: Disk> Segment<D> {
         ensures kept { IfErr result (λ e. IsTrue (D.Disk.is_clean e.1) → (IsUnbegun (D.Disk.seen device) → ⊥)
             → (D.Disk.seen e.1 ≡ D.Disk.seen device) × ((file : List ℕ) → D.Disk.may_leave e.1 file → D.Disk.may_leave device file)) }
         ensures begun { IfErr result (λ e. e.0 ≡ SegmentError.Begun → IsTrue (D.Disk.is_clean e.1) → IsUnbegun (D.Disk.seen device) → ⊥) }
+        ensures cut_short { IfErr result (λ e. e.0 ≡ SegmentError.CutShort → IsTrue (D.Disk.is_clean e.1) → IsCutHead (D.Disk.seen device)) }
         ensures foreign { IfErr result (λ e. e.0 ≡ SegmentError.NotASegment → IsTrue (D.Disk.is_clean e.1) → IsForeign (D.Disk.seen device)) }
         ensures damaged { IfErr result (λ e. e.0 ≡ SegmentError.Damaged → IsTrue (D.Disk.is_clean e.1)
             → (other : Head) (contents : List (List ℕ)) → Stands other contents (D.Disk.seen device) → ⊥) }
@@ -82,6 +83,7 @@ fn lay_out<D: Disk>(
     ensures kept { IsTrue (D.Disk.is_clean disk.new) → (IsUnbegun (D.Disk.seen disk.old) → ⊥)
         → (D.Disk.seen disk.new ≡ D.Disk.seen disk.old) × ((file : List ℕ) → D.Disk.may_leave disk.new file → D.Disk.may_leave disk.old file) }
     ensures again { IfErr result (λ e. e ≡ SegmentError.Begun → IsTrue (D.Disk.is_clean disk.new) → IsUnbegun (D.Disk.seen disk.old) → ⊥) }
+    ensures cut_short { IfErr result (λ e. e ≡ SegmentError.CutShort → IsTrue (D.Disk.is_clean disk.new) → IsCutHead (D.Disk.seen disk.old)) }
     ensures foreign { IfErr result (λ e. e ≡ SegmentError.NotASegment → IsTrue (D.Disk.is_clean disk.new) → IsForeign (D.Disk.seen disk.old)) }
     ensures damaged { IfErr result (λ e. e ≡ SegmentError.Damaged → IsTrue (D.Disk.is_clean disk.new)
         → (other : Head) (contents : List (List ℕ)) → Stands other contents (D.Disk.seen disk.old) → ⊥) }
@@ -131,6 +133,7 @@ fn prepare<D: Disk>(alloc: Global, disk: &mut D) -> Result<(), SegmentError>
     ensures kept { IsTrue (D.Disk.is_clean disk.new) → (IsUnbegun (D.Disk.seen disk.old) → ⊥)
         → (D.Disk.seen disk.new ≡ D.Disk.seen disk.old) × ((file : List ℕ) → D.Disk.may_leave disk.new file → D.Disk.may_leave disk.old file) }
     ensures again { IfErr result (λ e. e ≡ SegmentError.Begun → IsTrue (D.Disk.is_clean disk.new) → IsUnbegun (D.Disk.seen disk.old) → ⊥) }
+    ensures cut_short { IfErr result (λ e. e ≡ SegmentError.CutShort → IsTrue (D.Disk.is_clean disk.new) → IsCutHead (D.Disk.seen disk.old)) }
     ensures foreign { IfErr result (λ e. e ≡ SegmentError.NotASegment → IsTrue (D.Disk.is_clean disk.new) → IsForeign (D.Disk.seen disk.old)) }
     ensures damaged { IfErr result (λ e. e ≡ SegmentError.Damaged → IsTrue (D.Disk.is_clean disk.new)
         → (other : Head) (contents : List (List ℕ)) → Stands other contents (D.Disk.seen disk.old) → ⊥) }
@@ -148,31 +151,9 @@ fn prepare<D: Disk>(alloc: Global, disk: &mut D) -> Result<(), SegmentError>
         Err(SegmentError::NotBegun) => {}
         Err(error) => return Err(error),
     }
-    shut_file(disk)?;
     disk.set_len(8)?;
     disk.sync()?;
     Ok(())
-}
-
-/// Shuts the gate of a file that has not begun, if it is open. A shut gate is left as it is, since a torn write might
-/// open it.
-fn shut_file<D: Disk>(disk: &mut D) -> io::Result<()>
-    requires { IsTrue (D.Disk.is_usable disk.old) }
-    ensures shut { OnOk result (IsTrue (D.Disk.is_clean disk.new) → 8 < length (D.Disk.seen disk.old) → IsUnbegun (D.Disk.seen disk.old)
-        → IsShut (D.Disk.seen disk.new) × (8 < length (D.Disk.seen disk.new))) }
-    ensures durable { OnOk result (Only (D.Disk.seen disk.old) (D.Disk.may_leave disk.old) → Only (D.Disk.seen disk.new) (D.Disk.may_leave disk.new)) }
-    ensures any_moment { IsTrue (D.Disk.is_clean disk.new) → Only (D.Disk.seen disk.old) (D.Disk.may_leave disk.old) → 8 < length (D.Disk.seen disk.old) → IsUnbegun (D.Disk.seen disk.old)
-        → (file : List ℕ) → D.Disk.may_leave disk.new file → IsUnbegun file }
-    ensures clean { IsTrue (D.Disk.is_clean disk.new) → IsTrue (D.Disk.is_clean disk.old) }
-    ensures usable { OnOk result (IsTrue (D.Disk.is_usable disk.new)) }
-{
-    let mut gate = [0];
-    disk.read_at(0, &mut gate)?;
-    if gate[0] != b'F' {
-        return Ok(());
-    }
-    disk.write_at(0, &[0])?;
-    disk.sync()
 }
 
 /// Writes a head behind the mark, and then opens its gate.

@@ -1,7 +1,7 @@
 //! What a segment begins with.
 ghost use Rattle.std.specs.Prelude.{◌≡◌, ◌≢◌, ◌+◌, ◌<◌, ◌≤◌, ◌^◌, ◌↔◌, ◌++◌, ◌∷◌, List, ℕ, length, drop, IfOk, IfErr, OnOk, IsTrue, vec_len};
 ghost use Rattle.std.specs.Int.{w32, w64, to_be_bytes};
-ghost use Rattle.sb_durable.specs.Head.{Head, IsHead, IsForeign, IsUnbegun, mark, head_bytes, head_digest};
+ghost use Rattle.sb_durable.specs.Head.{Head, IsHead, IsCutHead, IsForeign, IsUnbegun, mark, head_bytes, head_digest};
 ghost use Rattle.sb_durable.specs.Segment.{head_in, Refuses};
 
 use crate::segment::SegmentError;
@@ -47,6 +47,7 @@ pub(crate) fn read_beginning<D: Disk>(
     ensures not_begun { IfErr result (λ e. e ≡ SegmentError.NotBegun → IsTrue (D.Disk.is_clean disk.new)
         → (head : Head) (rest : List ℕ) → IsHead head → D.Disk.seen disk.old ≡ head_bytes head ++ rest → ⊥) }
     ensures unbegun { IfErr result (λ e. e ≡ SegmentError.NotBegun → IsTrue (D.Disk.is_clean disk.new) → IsUnbegun (D.Disk.seen disk.old)) }
+    ensures cut_short { IfErr result (λ e. e ≡ SegmentError.CutShort → IsTrue (D.Disk.is_clean disk.new) → IsCutHead (D.Disk.seen disk.old)) }
 
     // A file of another program is refused as such, and no other is.
     ensures foreign { IfErr result (λ e. e ≡ SegmentError.NotASegment → IsTrue (D.Disk.is_clean disk.new) → IsForeign (D.Disk.seen disk.old)) }
@@ -71,17 +72,15 @@ fn read_head<D: Disk>(alloc: Global, disk: &mut D, len: usize) -> Result<Beginni
     ensures found { IfOk result (λ beginning. IsTrue (D.Disk.is_clean disk.new) → (rest : List ℕ) × (D.Disk.seen disk.old ≡ head_bytes (head_in beginning) ++ rest)) }
     ensures damaged { IfErr result (λ e. e ≡ SegmentError.Damaged → IsTrue (D.Disk.is_clean disk.new)
         → (head : Head) (rest tail : List ℕ) → IsHead head → D.Disk.seen disk.old ++ tail ≡ head_bytes head ++ rest → ⊥) }
-    ensures not_begun { IfErr result (λ e. e ≡ SegmentError.NotBegun → IsTrue (D.Disk.is_clean disk.new)
-        → (head : Head) (rest : List ℕ) → IsHead head → D.Disk.seen disk.old ≡ head_bytes head ++ rest → ⊥) }
-    ensures unbegun { IfErr result (λ e. e ≡ SegmentError.NotBegun → IsTrue (D.Disk.is_clean disk.new) → IsUnbegun (D.Disk.seen disk.old)) }
-    ensures kind { IfErr result (λ e. (e ≢ SegmentError.NotASegment) × (e ≢ SegmentError.Begun)) }
+    ensures cut_short { IfErr result (λ e. e ≡ SegmentError.CutShort → IsTrue (D.Disk.is_clean disk.new) → IsCutHead (D.Disk.seen disk.old)) }
+    ensures kind { IfErr result (λ e. (e ≢ SegmentError.NotASegment) × (e ≢ SegmentError.NotBegun) × (e ≢ SegmentError.Begun)) }
     ensures clean { IsTrue (D.Disk.is_clean disk.new) → IsTrue (D.Disk.is_clean disk.old) }
     ensures seen { D.Disk.seen disk.new ≡ D.Disk.seen disk.old }
     ensures usable { IsTrue (D.Disk.is_usable disk.new) }
     ensures crash { (file : List ℕ) → D.Disk.may_leave disk.new file → D.Disk.may_leave disk.old file }
 {
     if len < FIELDS {
-        return Err(SegmentError::NotBegun);
+        return Err(SegmentError::CutShort);
     }
     let number = number_at(disk, 8)?;
     let before = number_at(disk, 16)?;
@@ -90,7 +89,7 @@ fn read_head<D: Disk>(alloc: Global, disk: &mut D, len: usize) -> Result<Beginni
         return Err(SegmentError::Damaged);
     }
     if len - FIELDS < size + 8 {
-        return Err(SegmentError::NotBegun);
+        return Err(SegmentError::CutShort);
     }
     let mut settings = Vec::new(alloc);
     fill(disk, FIELDS, size, &mut settings)?;
@@ -114,7 +113,7 @@ pub(crate) fn check_mark<D: Disk>(disk: &mut D, len: usize) -> Result<(), Segmen
     ensures begun { OnOk result (IsTrue (D.Disk.is_clean disk.new) → (8 < length (D.Disk.seen disk.old)) × (D.Disk.seen disk.old ≡ 70 ∷ (mark ++ drop 8 (D.Disk.seen disk.old)))) }
     ensures foreign { IfErr result (λ e. e ≡ SegmentError.NotASegment → IsTrue (D.Disk.is_clean disk.new) → IsForeign (D.Disk.seen disk.old)) }
     ensures not_begun { IfErr result (λ e. e ≡ SegmentError.NotBegun → IsTrue (D.Disk.is_clean disk.new) → IsUnbegun (D.Disk.seen disk.old)) }
-    ensures kind { IfErr result (λ e. (e ≢ SegmentError.Damaged) × (e ≢ SegmentError.Begun)) }
+    ensures kind { IfErr result (λ e. (e ≢ SegmentError.Damaged) × (e ≢ SegmentError.Begun) × (e ≢ SegmentError.CutShort)) }
     ensures clean { IsTrue (D.Disk.is_clean disk.new) → IsTrue (D.Disk.is_clean disk.old) }
     ensures seen { D.Disk.seen disk.new ≡ D.Disk.seen disk.old }
     ensures usable { IsTrue (D.Disk.is_usable disk.new) }

@@ -16,9 +16,12 @@ pub enum SegmentError {
     /// The file is of another program: it has no mark of a segment.
     #[error("it is no segment")]
     NotASegment,
-    /// The file has no whole head.
+    /// The file is empty, or holds what a crash leaves of a head that wasn't whole.
     #[error("it has not begun")]
     NotBegun,
+    /// The file ends within its head, as part of a copy does. No crash leaves that.
+    #[error("it ends within its head")]
+    CutShort,
     /// A segment stands in the file already.
     #[error("it has begun already")]
     Begun,

@@ -1,6 +1,6 @@
 //! A segment that is read.
 ghost use Rattle.std.specs.Prelude.{◌≡◌, ◌≢◌, ◌++◌, [], List, ℕ, take, IfOk, IfErr, IsErr, IsTrue};
-ghost use Rattle.sb_durable.specs.Head.{Head, Stands, IsForeign, IsUnbegun};
+ghost use Rattle.sb_durable.specs.Head.{Head, Stands, IsCutHead, IsForeign, IsUnbegun};
 ghost use Rattle.sb_durable.specs.Segment.{Knows, HasAll, IsSpent, IsBehind, IsBound, BindsAll, Reads, Gives, Refuses, device_of, head_of, head_in, end_of};
 
 use crate::segment::beginning::{Beginning, read_beginning};
@@ -36,11 +36,14 @@ impl<D: Disk> Segment<D> {
         ensures not_begun { IfErr result (λ e. e.0 ≡ SegmentError.NotBegun → IsTrue (D.Disk.is_clean e.1)
             → (head : Head) (contents : List (List ℕ)) → Stands head contents (D.Disk.seen device) → ⊥) }
         ensures unbegun { IfErr result (λ e. e.0 ≡ SegmentError.NotBegun → IsTrue (D.Disk.is_clean e.1) → IsUnbegun (D.Disk.seen device)) }
+        ensures cut_short { IfErr result (λ e. e.0 ≡ SegmentError.CutShort → IsTrue (D.Disk.is_clean e.1) → IsCutHead (D.Disk.seen device)) }
+        ensures not_cut { IfErr result (λ e. e.0 ≡ SegmentError.CutShort → IsTrue (D.Disk.is_clean e.1)
+            → (head : Head) (contents : List (List ℕ)) → Stands head contents (D.Disk.seen device) → ⊥) }
 
         // A file of another program is refused as such, and no other is.
         ensures foreign { IfErr result (λ e. e.0 ≡ SegmentError.NotASegment → IsTrue (D.Disk.is_clean e.1) → IsForeign (D.Disk.seen device)) }
         ensures refused { IfOk result (λ segment. IsTrue (D.Disk.is_clean (device_of segment)) → IsForeign (D.Disk.seen device) → ⊥) }
-        ensures refused_err { IfErr result (λ e. IsTrue (D.Disk.is_clean e.1) → IsForeign (D.Disk.seen device) → (e.0 ≢ SegmentError.Damaged) × (e.0 ≢ SegmentError.NotBegun)) }
+        ensures refused_err { IfErr result (λ e. IsTrue (D.Disk.is_clean e.1) → IsForeign (D.Disk.seen device) → (e.0 ≢ SegmentError.Damaged) × (e.0 ≢ SegmentError.NotBegun) × (e.0 ≢ SegmentError.CutShort)) }
     {
         let mut device = device;
         match survey(alloc, &mut device) {
@@ -125,6 +128,7 @@ fn survey<D: Disk>(alloc: Global, disk: &mut D) -> Result<(Beginning, Place), Se
     ensures not_begun { IfErr result (λ e. e ≡ SegmentError.NotBegun → IsTrue (D.Disk.is_clean disk.new)
         → (head : Head) (contents : List (List ℕ)) → Stands head contents (D.Disk.seen disk.old) → ⊥) }
     ensures unbegun { IfErr result (λ e. e ≡ SegmentError.NotBegun → IsTrue (D.Disk.is_clean disk.new) → IsUnbegun (D.Disk.seen disk.old)) }
+    ensures cut_short { IfErr result (λ e. e ≡ SegmentError.CutShort → IsTrue (D.Disk.is_clean disk.new) → IsCutHead (D.Disk.seen disk.old)) }
     ensures foreign { IfErr result (λ e. e ≡ SegmentError.NotASegment → IsTrue (D.Disk.is_clean disk.new) → IsForeign (D.Disk.seen disk.old)) }
     ensures refused { IsTrue (D.Disk.is_clean disk.new) → IsForeign (D.Disk.seen disk.old) → Refuses result }
     ensures seen { D.Disk.seen disk.new ≡ D.Disk.seen disk.old }

@@ -32,7 +32,7 @@ pub(crate) fn find_end<D: Disk>(
     ensures within { IfOk result (λ end. end.at ≤ len) }
     ensures damaged { IfErr result (λ e. e ≡ SegmentError.Damaged → IsTrue (D.Disk.is_clean disk.new)
         → (contents : List (List ℕ)) → GoOn first.chain contents (drop first.at (D.Disk.seen disk.old)) → ⊥) }
-    ensures kind { IfErr result (λ e. (e ≢ SegmentError.NotASegment) × (e ≢ SegmentError.NotBegun)) }
+    ensures kind { IfErr result (λ e. (e ≢ SegmentError.NotASegment) × (e ≢ SegmentError.NotBegun) × (e ≢ SegmentError.CutShort)) }
     ensures clean { IsTrue (D.Disk.is_clean disk.new) → IsTrue (D.Disk.is_clean disk.old) }
     ensures seen { D.Disk.seen disk.new ≡ D.Disk.seen disk.old }
     ensures crash { (file : List ℕ) → D.Disk.may_leave disk.new file → D.Disk.may_leave disk.old file }
@@ -65,7 +65,7 @@ pub(crate) fn block_at<D: Disk>(
     ensures found { IfOk result (λ found. IsTrue (D.Disk.is_clean disk.new) → Finds place.chain (drop place.at (D.Disk.seen disk.old)) content.new.items found) }
     ensures damaged { IfErr result (λ e. e ≡ SegmentError.Damaged → IsTrue (D.Disk.is_clean disk.new)
         → (contents : List (List ℕ)) → GoOn place.chain contents (drop place.at (D.Disk.seen disk.old)) → ⊥) }
-    ensures kind { IfErr result (λ e. (e ≢ SegmentError.NotASegment) × (e ≢ SegmentError.NotBegun)) }
+    ensures kind { IfErr result (λ e. (e ≢ SegmentError.NotASegment) × (e ≢ SegmentError.NotBegun) × (e ≢ SegmentError.CutShort)) }
     ensures clean { IsTrue (D.Disk.is_clean disk.new) → IsTrue (D.Disk.is_clean disk.old) }
     ensures seen { D.Disk.seen disk.new ≡ D.Disk.seen disk.old }
     ensures usable { IsTrue (D.Disk.is_usable disk.new) }
@@ -111,7 +111,7 @@ pub(crate) fn fill<D: Disk>(
     requires usable { IsTrue (D.Disk.is_usable disk.old) }
     ensures size { OnOk result (length bytes.new.items ≡ size) }
     ensures read { OnOk result (IsTrue (D.Disk.is_clean disk.new) → 0 < size → Holds (D.Disk.seen disk.old) at bytes.new.items) }
-    ensures kind { IfErr result (λ e. (e ≢ SegmentError.Damaged) × (e ≢ SegmentError.NotASegment) × (e ≢ SegmentError.NotBegun) × (e ≢ SegmentError.Begun)) }
+    ensures kind { IfErr result (λ e. (e ≢ SegmentError.Damaged) × (e ≢ SegmentError.NotASegment) × (e ≢ SegmentError.NotBegun) × (e ≢ SegmentError.CutShort) × (e ≢ SegmentError.Begun)) }
     ensures clean { IsTrue (D.Disk.is_clean disk.new) → IsTrue (D.Disk.is_clean disk.old) }
     ensures seen { D.Disk.seen disk.new ≡ D.Disk.seen disk.old }
     ensures usable { IsTrue (D.Disk.is_usable disk.new) }

@@ -5,7 +5,3 @@ use Rattle.sb_durable.proofs.segment.beginning.read_beginning.Goals as goal
 pub returns-clause-damaged : goal.returns-clause-damaged
 returns-clause-damaged g c =
     IfErr-weaker c.read_head.result _ _ (λ e damaged is clean head rest tail fits same. damaged is clean head rest tail fits (ap (λ (l : List ℕ). l ++ tail) c.check_mark.ensures.seen ∙ same)) c.read_head.ensures.damaged
-
-pub returns-clause-not_begun : goal.returns-clause-not_begun
-returns-clause-not_begun g c =
-    IfErr-weaker c.read_head.result _ _ (λ e begun is clean head rest fits same. begun is clean head rest fits (c.check_mark.ensures.seen ∙ same)) c.read_head.ensures.not_begun

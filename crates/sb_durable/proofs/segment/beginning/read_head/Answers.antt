@@ -32,8 +32,8 @@ returns-then-digest_of-own-clause-damaged g c is clean other rest tail fits same
     let small : IsHead head = (c.in_ok-number.ensures.fits, c.in_ok-before.ensures.fits, omega (arith, c.in_ok-fill.ensures.size, c.if-size-gt-MAX_SETTINGS.false)) in
     no_other_head file _ tail rest head other c.in_ok-own.own c.digest_of.result small fits c.in_ok-own.ensures.fits c.digest_of.type_inv digests c.if-digest_of-own.true there same
 
-pub returns-then-len-size-clause-unbegun : goal.returns-then-len-size-clause-unbegun
-returns-then-len-size-clause-unbegun g c is clean =
+pub returns-then-len-size-clause-cut_short : goal.returns-then-len-size-clause-cut_short
+returns-then-len-size-clause-cut_short g c is clean =
     let file = g.D.Disk.seen c.args.disk.now in
     let second = c.word_at.ensures.clean clean in
     let first = c.number_at-2.ensures.clean second in

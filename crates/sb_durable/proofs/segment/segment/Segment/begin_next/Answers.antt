@@ -1,8 +1,8 @@
-use Rattle.std.proofs.Common.{◌≡◌, ◌+◌, ◌⊎◌, [], List, ℕ, IfOk, IfErr, IsTrue, subst, sym, ◌∙◌, arith}
+use Rattle.std.proofs.Common.{◌≡◌, ◌⊎◌, [], List, ℕ, IfOk, IfErr, IsTrue, subst}
 use Rattle.sqlite_disk.specs.Disk.{Only}
 use Rattle.sb_durable.specs.Head.{Head, IsUnbegun, Stands}
 use Rattle.sb_durable.specs.Row.{next_head}
-use Rattle.sb_durable.specs.Segment.{device_of, head_of, end_of}
+use Rattle.sb_durable.specs.Segment.{device_of, head_of}
 use Rattle.sb_durable.proofs.segment.segment.Segment.begin_next.Goals as goal
 
 -- the head that is asked for is the next one
