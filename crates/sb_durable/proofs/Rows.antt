@@ -105,7 +105,7 @@ only_the_newest_is_written settings older newest files is have filed content fil
       same_settings = have;
       all = refl;
       begun = files ++ file ∷ [];
-      filed = filed-push older files newest file filed before;
+      filed = filed-push older files newest file filed before.stands;
       behind = [];
       whole = sym (append-nil (files ++ file ∷ []));
       over = tt;
@@ -117,7 +117,7 @@ only_the_newest_is_written settings older newest files is have filed content fil
       same_settings = push_settings settings older newest content have;
       all = push_contents older newest content;
       begun = files ++ file ∷ [];
-      filed = filed-push older files (with_more newest content) file filed after;
+      filed = filed-push older files (with_more newest content) file filed after.stands;
       behind = [];
       whole = sym (append-nil (files ++ file ∷ []));
       over = tt;

@@ -5,7 +5,7 @@ use Rattle.std.proofs.lemmas.Bool.{cases_eq}
 use Rattle.std.proofs.lemmas.List.{append-nil}
 use Rattle.sqlite_disk.specs.Digest.{digest}
 use Rattle.sb_durable.specs.SegmentBlocks.{body, block, blocks, end_digest, IsContent, IsEnd}
-use Rattle.sb_durable.specs.Head.{Head, IsHead, head_bytes, head_digest, last_digest, Stands, IsBeforeOrAfter}
+use Rattle.sb_durable.specs.Head.{Head, IsHead, head_bytes, head_digest, last_digest, Stands, IsLeft, IsBeforeOrAfter}
 
 pub each-push : (contents : List (List ℕ)) (content : List ℕ) → AllByRecursion IsContent contents → IsContent content → AllByRecursion IsContent (contents ++ content ∷ [])
 each-push [] content all one = (one, tt)
@@ -40,8 +40,9 @@ stands_end head contents end file fits each over is = record {
 }
 
 -- a shut gate ends them, and no more behind it than an append writes
-pub stands_shut : (head : Head) (contents : List (List ℕ)) (gate : ℕ) (rest file : List ℕ) → IsHead head → AllByRecursion IsContent contents → gate ≢ 1 → length rest ≤ 2 ^ 20 + 13 → file ≡ front_of head contents ++ gate ∷ rest → Stands head contents file
-stands_shut head contents gate rest file fits each shut few is = stands_end head contents (gate ∷ rest) file fits each (inl (shut, few)) is
+pub stands_shut : (head : Head) (contents : List (List ℕ)) (gate : ℕ) (rest file : List ℕ) → IsHead head → AllByRecursion IsContent contents → gate ≢ 1 → length rest ≤ 2 ^ 20 + 13 → file ≡ front_of head contents ++ gate ∷ rest → IsLeft head contents file
+unfolding stands_end
+stands_shut head contents gate rest file fits each shut few is = record { stands = stands_end head contents (gate ∷ rest) file fits each (inl (shut, few)) is; shut = shut }
 
 -- a whole block behind any gate counts or it doesn't
 pub stands_gate : (head : Head) (contents : List (List ℕ)) (content : List ℕ) (gate : ℕ) (file : List ℕ) → IsHead head → AllByRecursion IsContent contents → IsContent content
@@ -50,13 +51,16 @@ stands_gate head contents content gate file fits each one is = elim (cases_eq ga
   | inl opened ↦
       let own = digest (last_digest head contents) content in
       inr (record {
-        fits = fits;
-        rest = blocks (head_digest head) (contents ++ content ∷ []) ++ 0 ∷ [];
-        whole =
-            is ∙ ap (λ (g : ℕ). front_of head contents ++ g ∷ (body own content ++ 0 ∷ [])) opened
-            ∙ append_assoc (head_bytes head) (blocks (head_digest head) contents) (block (last_digest head contents) content ++ 0 ∷ [])
-            ∙ ap (λ (l : List ℕ). head_bytes head ++ l) (sym (blocks-push (head_digest head) contents content (0 ∷ [])));
-        behind = record { each = each-push contents content each one; end = 0 ∷ []; whole = refl; over = inr (inl (omega arith)) };
+        stands = record {
+          fits = fits;
+          rest = blocks (head_digest head) (contents ++ content ∷ []) ++ 0 ∷ [];
+          whole =
+              is ∙ ap (λ (g : ℕ). front_of head contents ++ g ∷ (body own content ++ 0 ∷ [])) opened
+              ∙ append_assoc (head_bytes head) (blocks (head_digest head) contents) (block (last_digest head contents) content ++ 0 ∷ [])
+              ∙ ap (λ (l : List ℕ). head_bytes head ++ l) (sym (blocks-push (head_digest head) contents content (0 ∷ [])));
+          behind = record { each = each-push contents content each one; end = 0 ∷ []; whole = refl; over = inr (inl (omega arith)) };
+        };
+        shut = omega arith;
       })
   | inr shut ↦
       inl (stands_shut head contents gate (body (digest (last_digest head contents) content) content ++ 0 ∷ []) file fits each shut (omega (arith, one, length-append content (0 ∷ []))) is)

@@ -5,7 +5,7 @@ use Rattle.std.proofs.lemmas.List.{append-nil}
 use Rattle.sqlite_disk.specs.Disk.{Holds, Torn, Follows, Only}
 use Rattle.sqlite_disk.specs.Digest.{digest}
 use Rattle.sb_durable.specs.SegmentBlocks.{body, block, blocks, IsContent}
-use Rattle.sb_durable.specs.Head.{head_bytes, head_digest, last_digest, Stands, IsBeforeOrAfter}
+use Rattle.sb_durable.specs.Head.{head_bytes, head_digest, last_digest, IsLeft, IsBeforeOrAfter}
 use Rattle.sb_durable.specs.Segment.{HasAll, head_of}
 use Rattle.sb_durable.specs.declared.segment.place.Place.{Place}
 use Rattle.sb_durable.specs.declared.segment.segment.Segment.{Segment}
@@ -26,15 +26,15 @@ module _ {D : Type 0} (seen : D → List ℕ) (may_leave : D → List ℕ → Ty
   now : seen segment.device ≡ front_of (head_of segment) contents ++ has.file.gate ∷ []
   now = has.file.whole ∙ sym (append_assoc (head_bytes (head_of segment)) (blocks (head_digest (head_of segment)) contents) (has.file.gate ∷ []))
 
-  shut_with : (rest c : List ℕ) → length rest ≤ 2 ^ 20 + 13 → c ≡ front_of (head_of segment) contents ++ has.file.gate ∷ rest → Stands (head_of segment) contents c
+  shut_with : (rest c : List ℕ) → length rest ≤ 2 ^ 20 + 13 → c ≡ front_of (head_of segment) contents ++ has.file.gate ∷ rest → IsLeft (head_of segment) contents c
   shut_with rest c few is = stands_shut (head_of segment) contents has.file.gate rest c has.knows.stands.fits each has.file.shut few is
 
   -- between two calls
-  pub left_now : (c : List ℕ) → may_leave segment.device c → Stands (head_of segment) contents c
+  pub left_now : (c : List ℕ) → may_leave segment.device c → IsLeft (head_of segment) contents c
   left_now c left = shut_with [] c (omega arith) (has.durable c left ∙ now)
 
   -- while the body is written behind the gate
-  pub left_behind : (n : ℕ) (mid : D) → n ≤ 2 ^ 20 + 13 → Follows (Torn (segment.end.at + 1) n) (may_leave segment.device) (may_leave mid) → (c : List ℕ) → may_leave mid c → Stands (head_of segment) contents c
+  pub left_behind : (n : ℕ) (mid : D) → n ≤ 2 ^ 20 + 13 → Follows (Torn (segment.end.at + 1) n) (may_leave segment.device) (may_leave mid) → (c : List ℕ) → may_leave mid c → IsLeft (head_of segment) contents c
   left_behind n mid few follows c left =
       let from = follows c left in
       let was : from.0 ≡ front_of (head_of segment) contents ++ has.file.gate ∷ [] ++ [] = has.durable from.0 from.1 ∙ now ∙ sym (append-nil (front_of (head_of segment) contents ++ has.file.gate ∷ [])) in

@@ -38,9 +38,19 @@ pub record Stands (head : Head) (contents : List (List ℕ)) (file : List ℕ) :
   pub whole : file ≡ head_bytes head ++ rest
   pub behind : GoOn (head_digest head) contents rest
 
+-- no gate is open
+abbrev pub IsShutEnd : List ℕ → Type 0
+IsShutEnd [] = Unit {0}
+IsShutEnd (gate ∷ rest) = gate ≢ 1
+
+-- so does a file that a crash leaves: none of its blocks is cut short
+pub record IsLeft (head : Head) (contents : List (List ℕ)) (file : List ℕ) : Type 0 where
+  pub stands : Stands head contents file
+  pub shut : IsShutEnd stands.behind.end
+
 -- the file stands for what was there, or for that and one content more
 abbrev pub IsBeforeOrAfter : Head → List (List ℕ) → List ℕ → List ℕ → Type 0
-IsBeforeOrAfter head contents content file = Stands head contents file ⊎ Stands head (contents ++ content ∷ []) file
+IsBeforeOrAfter head contents content file = IsLeft head contents file ⊎ IsLeft head (contents ++ content ∷ []) file
 
 -- the mark behind a gate that isn't open
 pub record IsShut (file : List ℕ) : Type 0 where

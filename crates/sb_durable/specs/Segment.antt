@@ -1,5 +1,5 @@
 -- Promise: what a segment has, and when it isn't used any more.
-use Rattle.std.specs.Prelude.{◌≡◌, ◌≢◌, ℕ, ◌+◌, List, [], ◌∷◌, ◌++◌, length, Option, Some, None, Result, Ok, Err, IsTrue}
+use Rattle.std.specs.Prelude.{◌≡◌, ◌≢◌, ℕ, ◌+◌, List, [], ◌∷◌, ◌++◌, length, slice_index, Option, Some, None, Result, Ok, Err, IsTrue}
 use Rattle.std.specs.List.{AllByRecursion}
 use Rattle.sqlite_disk.specs.Disk.{Only}
 use Rattle.sqlite_disk.specs.Digest.{digest}
@@ -36,6 +36,10 @@ IsSpent segment = IsTrue segment.is_spent
 -- nothing is behind the gate at its end, and that is shut
 abbrev pub IsSettled : {D : Type 0} → Segment D → Type 0
 IsSettled segment = IsTrue segment.is_settled
+
+-- its file ends within a block whose gate is open, as no crash leaves it
+abbrev pub EndsWithin : {D : Type 0} → (D → List ℕ) → Segment D → Type 0
+EndsWithin seen segment = slice_index (seen segment.device) segment.end.at ≡ 1
 
 -- The place is right behind these contents, and its digest binds them.
 pub record IsBehind (head : Head) (contents : List (List ℕ)) (place : Place) : Type 0 where

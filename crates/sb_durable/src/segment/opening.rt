@@ -1,7 +1,7 @@
 //! A segment that is read.
-ghost use Rattle.std.specs.Prelude.{◌≡◌, ◌≢◌, ◌++◌, [], List, ℕ, take, IfOk, IfErr, IsErr, IsTrue};
+ghost use Rattle.std.specs.Prelude.{◌≡◌, ◌≢◌, ◌++◌, ◌↔◌, [], List, ℕ, take, IfOk, IfErr, IsErr, IsTrue};
 ghost use Rattle.sb_durable.specs.Head.{Head, Stands, IsCutHead, IsForeign, IsUnbegun};
-ghost use Rattle.sb_durable.specs.Segment.{Knows, HasAll, IsSpent, IsBehind, IsBound, BindsAll, Reads, Gives, Refuses, device_of, head_of, head_in, end_of};
+ghost use Rattle.sb_durable.specs.Segment.{Knows, HasAll, IsSpent, EndsWithin, IsBehind, IsBound, BindsAll, Reads, Gives, Refuses, device_of, head_of, head_in, end_of};
 
 use crate::segment::beginning::{Beginning, read_beginning};
 use crate::segment::walk::{block_at, find_end};
@@ -104,6 +104,30 @@ impl<D: Disk> Segment<D> {
             Ok(None) => Err(SegmentError::Damaged),
             Err(error) => Err(error),
         }
+    }
+
+    /// True if the file ends within a block whose gate is open, as part of a copy does. No crash leaves that, and a length
+    /// that has changed may. Then the contents may be a first part of what was there.
+    pub fn ends_within(&mut self) -> Result<bool, SegmentError>
+        ensures told { IfOk result (λ is. IsTrue (D.Disk.is_clean (device_of self.new)) → IsTrue is ↔ EndsWithin D.Disk.seen self.old) }
+        ensures clean { IsTrue (D.Disk.is_clean (device_of self.new)) → IsTrue (D.Disk.is_clean (device_of self.old)) }
+
+        // Nothing is written.
+        ensures same { (head_of self.new ≡ head_of self.old) × (end_of self.new ≡ end_of self.old) }
+        ensures knows { (contents : List (List ℕ)) → Knows D.Disk.seen self.old contents → Knows D.Disk.seen self.new contents }
+        ensures has { (contents : List (List ℕ)) → HasAll D.Disk.seen D.Disk.may_leave self.old contents → HasAll D.Disk.seen D.Disk.may_leave self.new contents }
+        ensures spent { IsSpent self.old → IsErr result }
+    {
+        if self.is_spent || !self.device.may_be_used() {
+            return Err(SegmentError::Spent);
+        }
+        let len = self.device.len()?;
+        if self.end.at >= len {
+            return Ok(false);
+        }
+        let mut gate = [0];
+        self.device.read_at(self.end.at, &mut gate)?;
+        Ok(gate[0] == 1)
     }
 
     /// The place of the first block.

@@ -1,6 +1,16 @@
 use Rattle.std.proofs.Common.{inl, arith, refl, ◌∙◌}
-use Rattle.sb_durable.proofs.SegmentCrash.{left_behind, left_gate, has_more, long}
+use Rattle.sb_durable.proofs.SegmentCrash.{left_now, left_behind, left_gate, has_more, long}
 use Rattle.sb_durable.proofs.segment.segment.Segment.append.Goals as goal
+
+-- before anything is written
+pub returns-then-self-clause-any_moment : goal.returns-then-self-clause-any_moment
+returns-then-self-clause-any_moment g c contents has file left = inl (left_now _ _ _ contents has file left)
+
+pub returns-then-self-ge-MAX_LEN-clause-any_moment : goal.returns-then-self-ge-MAX_LEN-clause-any_moment
+returns-then-self-ge-MAX_LEN-clause-any_moment g c contents has file left = inl (left_now _ _ _ contents has file left)
+
+pub returns-in_err-behind-clause-any_moment : goal.returns-in_err-behind-clause-any_moment
+returns-in_err-behind-clause-any_moment g c contents has file left = inl (left_now _ _ _ contents has file left)
 
 -- the body is written behind the shut gate
 pub returns-in_err-write_at-clause-any_moment : goal.returns-in_err-write_at-clause-any_moment
