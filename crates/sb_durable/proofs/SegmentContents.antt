@@ -1,11 +1,12 @@
 -- Blocks, and what stands behind them.
-use Rattle.std.proofs.Common.{arith, ◌≡◌, ◌≢◌, ℕ, ◌+◌, ◌^◌, ◌≤◌, List, [], ◌∷◌, ◌++◌, length, refl, sym, ◌∙◌, ap, inl, inr, append_assoc, length-append}
+use Rattle.std.proofs.Common.{arith, ◌≡◌, ◌≢◌, ℕ, ◌+◌, ◌^◌, ◌≤◌, List, [], ◌∷◌, ◌++◌, length, refl, sym, ◌∙◌, ap, inl, inr, append_assoc, length-append, get_or, ◌-◌}
 use Rattle.std.specs.List.{AllByRecursion}
 use Rattle.std.proofs.lemmas.Bool.{cases_eq}
-use Rattle.std.proofs.lemmas.List.{append-nil}
+use Rattle.std.proofs.lemmas.List.{append-nil, get_or-append_right}
 use Rattle.sqlite_disk.specs.Digest.{digest}
 use Rattle.sb_durable.specs.SegmentBlocks.{body, block, blocks, end_digest, IsContent, IsEnd}
-use Rattle.sb_durable.specs.Head.{Head, IsHead, head_bytes, head_digest, last_digest, Stands, IsLeft, IsBeforeOrAfter}
+use Rattle.sb_durable.specs.Head.{Head, IsHead, head_bytes, head_digest, last_digest, Stands, IsLeft, IsShutEnd, IsBeforeOrAfter}
+use Rattle.sb_durable.specs.Chain.{CrashesEndShut}
 
 pub each-push : (contents : List (List ℕ)) (content : List ℕ) → AllByRecursion IsContent contents → IsContent content → AllByRecursion IsContent (contents ++ content ∷ [])
 each-push [] content all one = (one, tt)
@@ -65,3 +66,23 @@ stands_gate head contents content gate file fits each one is = elim (cases_eq ga
   | inr shut ↦
       inl (stands_shut head contents gate (body (digest (last_digest head contents) content) content ++ 0 ∷ []) file fits each shut (omega (arith, one, length-append content (0 ∷ []))) is)
 ]
+
+-- what a crash leaves has no open gate behind its last block
+not_open : (end : List ℕ) → IsShutEnd end → get_or end 0 0 ≢ 1
+not_open [] shut = omega arith
+not_open (gate ∷ rest) shut = shut
+
+pub crashes_end_shut : CrashesEndShut
+crashes_end_shut head contents file end left behind one =
+    let stands = left.stands in
+    let whole : file ≡ front_of head contents ++ stands.behind.end =
+    stands.whole ∙ ap (λ (l : List ℕ). head_bytes head ++ l) stands.behind.whole ∙ sym (append_assoc (head_bytes head) (blocks (head_digest head) contents) stands.behind.end) in
+    let here : end.at ≡ length (front_of head contents) = omega (arith, behind.at, length-append (head_bytes head) (blocks (head_digest head) contents)) in
+    not_open stands.behind.end left.shut (
+    sym (
+    ap (λ (l : List ℕ). get_or l end.at 0) whole
+    ∙ get_or-append_right (front_of head contents) stands.behind.end (length (front_of head contents)) end.at 0 refl (omega (arith, here))
+    ∙ ap (λ n. get_or stands.behind.end n 0) (omega (arith, here))
+    )
+    ∙ one
+    )

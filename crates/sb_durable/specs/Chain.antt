@@ -1,8 +1,8 @@
 -- Promise: one digest at the end binds a whole segment.
-use Rattle.std.specs.Prelude.{◌≡◌, ◌≢◌, ◌⊎◌, ℕ, List, [], ◌∷◌, take}
+use Rattle.std.specs.Prelude.{◌≡◌, ◌≢◌, ◌⊎◌, ℕ, List, [], ◌∷◌, take, slice_index}
 use Rattle.sqlite_disk.specs.Digest.{digest}
-use Rattle.sb_durable.specs.Head.{Head, IsHead, IsUnbegun, IsCutHead, head_digest, last_digest, Stands}
-use Rattle.sb_durable.specs.Segment.{Bears}
+use Rattle.sb_durable.specs.Head.{Head, IsHead, IsUnbegun, IsCutHead, head_digest, last_digest, Stands, IsLeft}
+use Rattle.sb_durable.specs.Segment.{Bears, IsBehind}
 use Rattle.sb_durable.specs.declared.segment.place.Place.{Place}
 
 -- two keys with their texts that have one digest and aren't the same
@@ -36,3 +36,8 @@ Leads from (content ∷ contents) to = (next : Place) × Bears from content next
 abbrev pub WhatIsReadIsBound : Type 0
 WhatIsReadIsBound = (head : Head) (contents : List (List ℕ)) (first end : Place) → first.chain ≡ head_digest head → Leads first contents end
     → end.chain ≡ last_digest head contents
+
+-- what a crash leaves has no open gate behind its last block
+abbrev pub CrashesEndShut : Type 0
+CrashesEndShut = (head : Head) (contents : List (List ℕ)) (file : List ℕ) (end : Place) → IsLeft head contents file → IsBehind head contents end
+    → slice_index file end.at ≢ 1

@@ -1,5 +1,5 @@
 //! What holds of the definitions alone: each law is the contract of a function that does nothing.
-ghost use Rattle.sb_durable.specs.Chain.{CutFilesStand, OneEndOneSegment, OneFileOneSegment, WhatIsReadIsBound};
+ghost use Rattle.sb_durable.specs.Chain.{CrashesEndShut, CutFilesStand, OneEndOneSegment, OneFileOneSegment, WhatIsReadIsBound};
 ghost use Rattle.sb_durable.specs.Row.{BegunBehind, NewerAreARow, OneEndOneRow, OneFolderOneRow, OnlyTheNewestIsWritten};
 
 /// One digest at the end binds all of a segment.
@@ -45,4 +45,9 @@ pub fn only_the_newest_is_written()
 /// What a crash leaves of a segment that is begun behind the newest, the folder holds as before.
 pub fn begun_behind()
     ensures { BegunBehind }
+{}
+
+/// What a crash leaves of an append has no open gate behind its last block.
+pub fn crashes_end_shut()
+    ensures { CrashesEndShut }
 {}
