@@ -32,4 +32,5 @@ mod Begun
 mod CutFiles
 mod Rows
 mod Volumes
+mod RowJournals
 mod Journals

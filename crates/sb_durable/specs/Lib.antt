@@ -23,5 +23,6 @@ pub mod SegmentEnds
 pub mod Row
 pub mod RowFaults
 pub mod VolumeRecords
+pub mod RowJournal
 pub mod JournaledRuns
 pub mod JournalFaults

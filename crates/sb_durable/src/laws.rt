@@ -2,6 +2,7 @@
 ghost use Rattle.std.specs.Prelude.{ℕ};
 ghost use Rattle.sb_durable.specs.RecordedLives.{RecordsAreTheSteps};
 ghost use Rattle.sb_durable.specs.Recording.{RecordsMakeTheState};
+ghost use Rattle.sb_durable.specs.RowJournal.{FoldersCanLoseTheirOldest, RestartsAreTheSame};
 ghost use Rattle.sb_durable.specs.VolumeRecords.{DraftsAreNothing, OldSegmentsCanGo, OlderAreOfNoUse, RenewalsAreVolumes, RenewalsStand, SessionsAlone, VolumesStand};
 
 /// The lines that a legal trail is recorded as make its state again, from the opening state on.
@@ -48,4 +49,14 @@ pub fn renewals_stand()
 /// With a renewal among its records, a tenant needs none before it.
 pub fn renewals_are_volumes()
     ensures { RenewalsAreVolumes }
+{}
+
+/// A folder that loses its oldest file keeps the newer records.
+pub fn folders_can_lose_their_oldest()
+    ensures { FoldersCanLoseTheirOldest }
+{}
+
+/// Where no tenant needs the older records, a restart makes the same tenants of the newer ones.
+pub fn restarts_are_the_same()
+    ensures { RestartsAreTheSame }
 {}
