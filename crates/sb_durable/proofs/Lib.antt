@@ -33,4 +33,5 @@ mod CutFiles
 mod Rows
 mod Volumes
 mod RowJournals
+mod VolumeLives
 mod Journals

@@ -20,7 +20,7 @@ module _ (bound t : ℕ) where
   abbrev run : State × Option State → List Deed → State × Option State
   run p deeds = after_deeds bound t p deeds
 
-  joined : (p : State × Option State) (xs ys : List Deed) → run p (xs ++ ys) ≡ run (run p xs) ys
+  pub joined : (p : State × Option State) (xs ys : List Deed) → run p (xs ++ ys) ≡ run (run p xs) ys
   joined p [] ys = refl
   joined p (d ∷ ds) ys = joined (after_deed bound t p d) ds ys
 
@@ -30,7 +30,7 @@ module _ (bound t : ℕ) where
   grows state next (e ∷ es) = grows state (after_step bound t next e.0 e.1) es
 
   -- a whole volume makes what its script makes, whatever stood before
-  turned : (p : State × Option State) (script : List (ℕ × List ℕ)) (back : List Deed) → run p (volume script ++ back) ≡ run (state_after t bound opening script, None) back
+  pub turned : (p : State × Option State) (script : List (ℕ × List ℕ)) (back : List Deed) → run p (volume script ++ back) ≡ run (state_after t bound opening script, None) back
   turned p script back =
       joined p (volume script) back
       ∙ ap (λ (q : State × Option State). run q back) (joined (p.0, Some opening) (drafted script) (turns ∷ []) ∙ ap (λ (q : State × Option State). after_deed bound t q turns) (grows p.0 opening script))
@@ -75,7 +75,7 @@ volumes_stand bound t = volumes_stand_of bound t
 
 -- ---- records of sessions alone
 
-abbrev stepped : ℕ × List ℕ → Deed
+abbrev pub stepped : ℕ × List ℕ → Deed
 stepped e = steps e.0 e.1
 
 by_tests : (own session : Bool) (s : ℕ) (line : List ℕ) (other : Option Deed) → IsTrue session
@@ -95,7 +95,7 @@ own_steps t (r ∷ rs) all =
     (λ i. cons_option (by_tests (t == r.tenant) (is_session r.session) r.session r.line (volume_deed_of r) all.0 i) (own_steps t rs all.1 i))
     ∙ cons_stepped (restart.own_record t r) (restart.own_records t rs)
 
-after_steps : (bound t : ℕ) (state : State) (es : List (ℕ × List ℕ)) → after_deeds bound t (state, None) (map stepped es) ≡ (state_after t bound state es, None)
+pub after_steps : (bound t : ℕ) (state : State) (es : List (ℕ × List ℕ)) → after_deeds bound t (state, None) (map stepped es) ≡ (state_after t bound state es, None)
 after_steps bound t state [] = refl
 after_steps bound t state (e ∷ es) = after_steps bound t (after_step bound t state e.0 e.1) es
 
@@ -142,13 +142,13 @@ module _ (t : ℕ) where
   read_script [] all = ap (λ (d : Option Deed). cons_option d []) (by_mark (t == t) turns itself)
   read_script (e ∷ es) all = λ i. cons_option (read_draft e.0 e.1 all.0 i) (read_script es all.1 i)
 
-  read_volume : (script : List (ℕ × List ℕ)) → AllByRecursion (λ e. IsTrue (is_session e.0)) script → own_deeds t (map (record_of_deed t) (volume script)) ≡ volume script
+  pub read_volume : (script : List (ℕ × List ℕ)) → AllByRecursion (λ e. IsTrue (is_session e.0)) script → own_deeds t (map (record_of_deed t) (volume script)) ≡ volume script
   read_volume script all = λ i. cons_option (by_mark (t == t) begins itself i) (read_script script all i)
 
 -- ---- the opening of a legal trail
 
 module _ (t bound : ℕ) where
-  front_legal : (n : ℕ) (before after : State) (trail : List Entry) → IsLegal t bound before trail after → IsLegal t bound before (take n trail) (replayed t bound before (take n trail))
+  pub front_legal : (n : ℕ) (before after : State) (trail : List Entry) → IsLegal t bound before trail after → IsLegal t bound before (take n trail) (replayed t bound before (take n trail))
   front_legal zero before after trail legal = refl
   front_legal (suc n) before after [] legal = refl
   front_legal (suc n) before after (e ∷ trail) (mid, next, legal) = (
@@ -157,7 +157,7 @@ module _ (t bound : ℕ) where
     subst (λ (st : State). IsLegal t bound mid (take n trail) (replayed t bound st (take n trail))) (sym (one t bound before mid e next.1).1) (front_legal n mid after trail legal),
   )
 
-  by_sessions : (before after : State) (trail : List Entry) → IsLegal t bound before trail after → AllByRecursion (λ e. IsTrue (is_session e.0)) (map played trail)
+  pub by_sessions : (before after : State) (trail : List Entry) → IsLegal t bound before trail after → AllByRecursion (λ e. IsTrue (is_session e.0)) (map played trail)
   by_sessions before after [] legal = tt
   by_sessions before after (e ∷ trail) (mid, next, legal) = (next.0, by_sessions mid after trail legal)
 

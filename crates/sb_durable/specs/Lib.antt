@@ -24,5 +24,6 @@ pub mod Row
 pub mod RowFaults
 pub mod VolumeRecords
 pub mod RowJournal
+pub mod VolumeLives
 pub mod JournaledRuns
 pub mod JournalFaults

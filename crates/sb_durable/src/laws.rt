@@ -3,6 +3,7 @@ ghost use Rattle.std.specs.Prelude.{ℕ};
 ghost use Rattle.sb_durable.specs.RecordedLives.{RecordsAreTheSteps};
 ghost use Rattle.sb_durable.specs.Recording.{RecordsMakeTheState};
 ghost use Rattle.sb_durable.specs.RowJournal.{FoldersCanLoseTheirOldest, RestartsAreTheSame};
+ghost use Rattle.sb_durable.specs.VolumeLives.{LivesAreMade};
 ghost use Rattle.sb_durable.specs.VolumeRecords.{DraftsAreNothing, OldSegmentsCanGo, OlderAreOfNoUse, RenewalsAreVolumes, RenewalsStand, SessionsAlone, VolumesStand};
 
 /// The lines that a legal trail is recorded as make its state again, from the opening state on.
@@ -59,4 +60,9 @@ pub fn folders_can_lose_their_oldest()
 /// Where no tenant needs the older records, a restart makes the same tenants of the newer ones.
 pub fn restarts_are_the_same()
     ensures { RestartsAreTheSame }
+{}
+
+/// What is to be recorded of a tenant's life makes it as its last volume leaves it.
+pub fn lives_are_made()
+    ensures { (bound t : ℕ) → LivesAreMade bound t }
 {}
