@@ -1,10 +1,14 @@
 -- Journals in the files of a folder.
-use Rattle.std.proofs.Common.{◌≡◌, ℕ, List, [], ◌∷◌, ◌++◌, length, drop, refl, sym, ap, ◌∙◌, arith, append_assoc, subst}
+use Rattle.std.proofs.Common.{◌≡◌, ◌⊎◌, ℕ, List, [], ◌∷◌, ◌++◌, length, drop, refl, sym, ap, ◌∙◌, inl, inr, arith, append_assoc, subst}
+use Rattle.sb_durable.specs.Head.{Head as SegmentHead}
 use Rattle.sb_durable.specs.Journal.{contents_of, all_of}
-use Rattle.sb_durable.specs.Records.{Entry as Record}
+use Rattle.sb_durable.specs.Records.{Entry as Record, bytes_of}
 use Rattle.sb_durable.specs.Restart.{ends}
-use Rattle.sb_durable.specs.Row.{Filed, IsRow, HaveSettings, AreFiled, IsRowEnd, Hold, all_contents}
-use Rattle.sb_durable.specs.RowJournal.{settings_of, FoldersCanLoseTheirOldest, RestartsAreTheSame}
+use Rattle.sb_durable.specs.Row.{Filed, IsRow, HaveSettings, AreFiled, IsRowEnd, Hold, HoldBeforeOrAfter, all_contents}
+use Rattle.sb_durable.specs.RowJournal.{settings_of, KeepRow, FoldersCanLoseTheirOldest, RestartsAreTheSame}
+use Rattle.sb_durable.specs.declared.journal_header.Head.{Head}
+use Rattle.sb_durable.proofs.Batches.{contents-push, all_more}
+use Rattle.sb_durable.proofs.Rows.{push_row, push_settings, push_contents}
 use Rattle.sb_durable.proofs.Volumes.{old_segments_can_go}
 use Rattle.sb_tenant.specs.State.{State}
 use Rattle.sb_tenant.specs.Trail.{state_after}
@@ -78,3 +82,34 @@ folders_can_lose_their_oldest head records file files keeps =
 pub restarts_are_the_same : RestartsAreTheSame
 restarts_are_the_same cell older newer none is t hosted =
     is t hosted ∙ ap (λ (st : State). state_after t cell.bound st (ends st)) (old_segments_can_go cell.bound (hosts cell) older newer none t hosted)
+
+-- ---- one batch more
+
+module _ (head : Head) (batches : List (List Record)) (entries waiting : List Record) (content : List ℕ) (all : entries ≡ all_of batches) (is : content ≡ bytes_of waiting) where
+  pub more_contents : (contents : List (List ℕ)) → contents_of batches ≡ contents → contents_of (batches ++ waiting ∷ []) ≡ contents ++ content ∷ []
+  more_contents contents are = contents-push batches waiting ∙ (λ i. are i ++ sym is i ∷ [])
+
+  pub keep_more : (contents files : List (List ℕ)) → contents_of batches ≡ contents → HoldBeforeOrAfter (settings_of head) contents content files → KeepRow head entries files ⊎ KeepRow head (entries ++ waiting) files
+  keep_more contents files are (inl before) = inl (record { batches = batches; hold = subst (λ (l : List (List ℕ)). Hold (settings_of head) l files) (sym are) before; all = all })
+  keep_more contents files are (inr after) = inr (record {
+    batches = batches ++ waiting ∷ [];
+    hold = subst (λ (l : List (List ℕ)). Hold (settings_of head) l files) (sym (more_contents contents are)) after;
+    all = all_more batches entries waiting all;
+  })
+
+-- the newest segment with one content more, whose head stays
+module _ (settings : List ℕ) (older : List Filed) (own next : SegmentHead) (contents : List (List ℕ)) (content : List ℕ) (same : next ≡ own) where
+  abbrev before : List Filed
+  before = older ++ (record { head = own; contents = contents }) ∷ []
+
+  abbrev after : SegmentHead → List Filed
+  after h = older ++ (record { head = h; contents = contents ++ content ∷ [] }) ∷ []
+
+  pub row_after : IsRow before → IsRow (after next)
+  row_after is = subst (λ (h : SegmentHead). IsRow (after h)) (sym same) (push_row older (record { head = own; contents = contents }) content is)
+
+  pub settings_after : HaveSettings settings before → HaveSettings settings (after next)
+  settings_after have = subst (λ (h : SegmentHead). HaveSettings settings (after h)) (sym same) (push_settings settings older (record { head = own; contents = contents }) content have)
+
+  pub contents_after : all_contents before ++ content ∷ [] ≡ all_contents (after next)
+  contents_after = push_contents older (record { head = own; contents = contents }) content ∙ ap (λ (h : SegmentHead). all_contents (after h)) (sym same)

@@ -83,15 +83,15 @@ push_continue one [] newest other same next = record {
 }
 push_continue one (a ∷ older) newest other same next = next
 
-push_row : (older : List Filed) (newest : Filed) (content : List ℕ) → IsRow (older ++ newest ∷ []) → IsRow (older ++ with_more newest content ∷ [])
+pub push_row : (older : List Filed) (newest : Filed) (content : List ℕ) → IsRow (older ++ newest ∷ []) → IsRow (older ++ with_more newest content ∷ [])
 push_row [] newest content is = (is.0, tt, tt)
 push_row (one ∷ older) newest content is = (is.0, push_continue one older newest (with_more newest content) refl is.1, push_row older newest content is.2)
 
-push_settings : (settings : List ℕ) (older : List Filed) (newest : Filed) (content : List ℕ) → HaveSettings settings (older ++ newest ∷ []) → HaveSettings settings (older ++ with_more newest content ∷ [])
+pub push_settings : (settings : List ℕ) (older : List Filed) (newest : Filed) (content : List ℕ) → HaveSettings settings (older ++ newest ∷ []) → HaveSettings settings (older ++ with_more newest content ∷ [])
 push_settings settings [] newest content have = have
 push_settings settings (one ∷ older) newest content have = (have.0, push_settings settings older newest content have.1)
 
-push_contents : (older : List Filed) (newest : Filed) (content : List ℕ) → all_contents (older ++ newest ∷ []) ++ content ∷ [] ≡ all_contents (older ++ with_more newest content ∷ [])
+pub push_contents : (older : List Filed) (newest : Filed) (content : List ℕ) → all_contents (older ++ newest ∷ []) ++ content ∷ [] ≡ all_contents (older ++ with_more newest content ∷ [])
 push_contents [] newest content =
     ap (λ (l : List (List ℕ)). l ++ content ∷ []) (append-nil newest.contents) ∙ sym (append-nil (newest.contents ++ content ∷ []))
 push_contents (one ∷ older) newest content =

@@ -25,5 +25,6 @@ pub mod RowFaults
 pub mod VolumeRecords
 pub mod RowJournal
 pub mod VolumeLives
+pub mod RowJournals
 pub mod JournaledRuns
 pub mod JournalFaults

@@ -1,0 +1,110 @@
+//! A journal over a row of segments: batches of records go to the newest one. What is staged waits in memory until it is
+//! committed.
+ghost use Rattle.std.specs.Prelude.{◌≡◌, ◌⊎◌, ◌≤◌, ◌^◌, ◌++◌, ◌↔◌, [], ◌∷◌, List, ℕ, length, OnOk, OnErr, IsTrue};
+ghost use Rattle.sb_durable.specs.Records.{Entry, entry_of};
+ghost use Rattle.sb_durable.specs.Row.{Filed, IsRow, HaveSettings, AreFiled, all_contents};
+ghost use Rattle.sb_durable.specs.Segment.{HasAll, IsSpent, device_of};
+
+use crate::Record;
+use crate::record::record_bytes;
+use crate::recovery::MAX_CONTENT;
+use crate::segment::{Segment, SegmentError};
+use sqlite_disk::Disk;
+use std::alloc::Global;
+
+pub struct RowJournal<D: Disk> {
+    alloc: Global,
+    newest: Segment<D>,
+    waiting: Vec<u8>,
+    ghost small: { length waiting.items ≤ 2 ^ 20 },
+}
+
+impl<D: Disk + Drop> Drop for RowJournal<D> {
+    fn drop(self) {
+        let Self {
+            alloc: _,
+            newest: _,
+            waiting: _,
+        } = self;
+    }
+}
+
+impl<D: Disk> RowJournal<D> {
+    ghost use Rattle.sb_durable.specs.declared.journal_header.Head.{Head as TheHead};
+    ghost use Rattle.sb_durable.specs.Journal.{all_of, contents_of};
+    ghost use Rattle.sb_durable.specs.RowJournal.{KeepRow, settings_of};
+    ghost use Rattle.sb_durable.specs.RowJournals.{HasRow, disk_of, filed, newest_of};
+
+    /// A journal whose newest segment is this one. Nothing is staged.
+    pub fn over(alloc: Global, newest: Segment<D>) -> RowJournal<D>
+        ensures has { (head : TheHead) (older : List Filed) (contents : List (List ℕ)) (batches : List (List Entry)) → HasAll D.Disk.seen D.Disk.may_leave newest contents
+            → IsRow (older ++ filed newest contents ∷ []) → HaveSettings (settings_of head) (older ++ filed newest contents ∷ [])
+            → contents_of batches ≡ all_contents (older ++ filed newest contents ∷ []) → HasRow D.Disk.seen D.Disk.may_leave result head older (all_of batches) [] }
+        ensures disk { disk_of result ≡ device_of newest }
+    {
+        RowJournal {
+            alloc,
+            newest,
+            waiting: Vec::new(alloc),
+        }
+    }
+
+    /// Stages a record for the next commit. Errors: Full, or Memory.
+    pub fn stage(&mut self, line: Record) -> Result<(), SegmentError>
+        requires { length line.text.now ≤ 4096 }
+        ensures ok { OnOk result ((head : TheHead) (older : List Filed) (entries waiting : List Entry) → HasRow D.Disk.seen D.Disk.may_leave self.old head older entries waiting
+            → HasRow D.Disk.seen D.Disk.may_leave self.new head older entries (waiting ++ entry_of line.entry ∷ [])) }
+        ensures err { OnErr result ((head : TheHead) (older : List Filed) (entries waiting : List Entry) → HasRow D.Disk.seen D.Disk.may_leave self.old head older entries waiting
+            → HasRow D.Disk.seen D.Disk.may_leave self.new head older entries waiting) }
+        ensures disk { disk_of self.new ≡ disk_of self.old }
+    {
+        let bytes = record_bytes(self.alloc, line)?;
+        if bytes.len() > MAX_CONTENT - self.waiting.len() {
+            return Err(SegmentError::Full);
+        }
+        self.waiting.extend_from_slice(&bytes)?;
+        Ok(())
+    }
+
+    /// Writes all staged records as one batch to the newest segment, and syncs it. After an error nothing more is written.
+    pub fn commit(&mut self) -> Result<(), SegmentError>
+        ensures ok { OnOk result ((head : TheHead) (older : List Filed) (entries waiting : List Entry) → HasRow D.Disk.seen D.Disk.may_leave self.old head older entries waiting
+            → HasRow D.Disk.seen D.Disk.may_leave self.new head older (entries ++ waiting) []) }
+
+        // Nothing was done, or it isn't used any more.
+        ensures err { OnErr result (((head : TheHead) (older : List Filed) (entries waiting : List Entry) → HasRow D.Disk.seen D.Disk.may_leave self.old head older entries waiting
+            → HasRow D.Disk.seen D.Disk.may_leave self.new head older entries waiting) ⊎ IsSpent (newest_of self.new)) }
+
+        // A crash at any moment of the call leaves what was there, or that and all that waited, in the files of the folder.
+        ensures any_moment { (head : TheHead) (older : List Filed) (entries waiting : List Entry) → HasRow D.Disk.seen D.Disk.may_leave self.old head older entries waiting
+            → (files : List (List ℕ)) → AreFiled older files → (file : List ℕ) → D.Disk.may_leave (disk_of self.new) file
+            → KeepRow head entries (files ++ file ∷ []) ⊎ KeepRow head (entries ++ waiting) (files ++ file ∷ []) }
+        ensures clean { IsTrue (D.Disk.is_clean (disk_of self.new)) → IsTrue (D.Disk.is_clean (disk_of self.old)) }
+    {
+        if self.waiting.is_empty() {
+            return Ok(());
+        }
+        self.newest.append(self.alloc, &self.waiting)?;
+        self.waiting.clear();
+        Ok(())
+    }
+
+    /// True if a write or a sync has failed. Then nothing more is written.
+    pub fn is_spent(&self) -> bool
+        ensures { IsTrue result ↔ IsSpent (newest_of self.now) }
+    {
+        self.newest.is_spent()
+    }
+
+    /// Returns the file of the newest segment. Staged records are dropped.
+    pub fn close(self) -> D
+        ensures { result ≡ disk_of self }
+    {
+        let Self {
+            alloc: _,
+            newest,
+            waiting: _,
+        } = self;
+        newest.close()
+    }
+}
