@@ -1,14 +1,18 @@
 -- Journals in the files of a folder.
 use Rattle.std.proofs.Common.{◌≡◌, ◌⊎◌, ℕ, List, [], ◌∷◌, ◌++◌, length, drop, refl, sym, ap, ◌∙◌, inl, inr, arith, append_assoc, subst}
-use Rattle.sb_durable.specs.Head.{Head as SegmentHead}
+use Rattle.sb_durable.specs.Head.{Head as SegmentHead, IsHead, IsUnbegun, Stands}
 use Rattle.sb_durable.specs.Journal.{contents_of, all_of}
 use Rattle.sb_durable.specs.Records.{Entry as Record, bytes_of}
 use Rattle.sb_durable.specs.Restart.{ends}
-use Rattle.sb_durable.specs.Row.{Filed, IsRow, HaveSettings, AreFiled, IsRowEnd, Hold, HoldBeforeOrAfter, all_contents}
+use Rattle.sb_durable.specs.Row.{Filed, IsNext, next_head, Continue, IsRow, HaveSettings, AreFiled, IsRowEnd, Hold, HoldBeforeOrAfter, all_contents}
+use Rattle.sqlite_disk.specs.declared.Disk.{Ghosts}
+use Rattle.sb_durable.specs.RowJournals.{HasRow, filed}
+use Rattle.sb_durable.specs.Segment.{HasAll, head_of}
+use Rattle.sb_durable.specs.declared.row_journal.RowJournal.{RowJournal}
 use Rattle.sb_durable.specs.RowJournal.{settings_of, KeepRow, FoldersCanLoseTheirOldest, RestartsAreTheSame}
 use Rattle.sb_durable.specs.declared.journal_header.Head.{Head}
 use Rattle.sb_durable.proofs.Batches.{contents-push, all_more}
-use Rattle.sb_durable.proofs.Rows.{push_row, push_settings, push_contents}
+use Rattle.sb_durable.proofs.Rows.{begun_behind, push_row, push_settings, push_contents}
 use Rattle.sb_durable.proofs.Volumes.{old_segments_can_go}
 use Rattle.sb_tenant.specs.State.{State}
 use Rattle.sb_tenant.specs.Trail.{state_after}
@@ -113,3 +117,65 @@ module _ (settings : List ℕ) (older : List Filed) (own next : SegmentHead) (co
 
   pub contents_after : all_contents before ++ content ∷ [] ≡ all_contents (after next)
   contents_after = push_contents older (record { head = own; contents = contents }) content ∙ ap (λ (h : SegmentHead). all_contents (after h)) (sym same)
+
+-- ---- one segment more
+
+continue_push : (one : Filed) (row : List Filed) (own next : Filed) → Continue one (row ++ own ∷ []) → Continue one ((row ++ own ∷ []) ++ next ∷ [])
+continue_push one [] own next goes = goes
+continue_push one (a ∷ row) own next goes = goes
+
+pub row_push : (row : List Filed) (own next : Filed) → IsRow (row ++ own ∷ []) → IsNext own next.head → IsHead next.head → IsRow ((row ++ own ∷ []) ++ next ∷ [])
+row_push [] own next is goes fits = (is.0, goes, (fits, tt, tt))
+row_push (one ∷ row) own next is goes fits = (is.0, continue_push one row own next is.1, row_push row own next is.2 goes fits)
+
+pub settings_push : (settings : List ℕ) (row : List Filed) (own next : Filed) → HaveSettings settings (row ++ own ∷ []) → next.head.settings ≡ own.head.settings → HaveSettings settings ((row ++ own ∷ []) ++ next ∷ [])
+settings_push settings [] own next have same = (have.0, (same ∙ have.0, tt))
+settings_push settings (one ∷ row) own next have same = (have.0, settings_push settings row own next have.1 same)
+
+pub none_more : (row : List Filed) (head : SegmentHead) → all_contents row ≡ all_contents (row ++ (record { head = head; contents = [] }) ∷ [])
+none_more [] head = refl
+none_more (one ∷ row) head = ap (λ (l : List (List ℕ)). one.contents ++ l) (none_more row head)
+
+-- what is left of a segment that is begun behind the newest
+pub begun_keep : (head : Head) (batches : List (List Record)) (entries : List Record) (older : List Filed) (own : Filed) (next : SegmentHead) → IsRow (older ++ own ∷ []) → HaveSettings (settings_of head) (older ++ own ∷ [])
+    → contents_of batches ≡ all_contents (older ++ own ∷ []) → entries ≡ all_of batches → IsNext own next → (files : List (List ℕ)) → AreFiled (older ++ own ∷ []) files
+    → (file : List ℕ) → IsUnbegun file ⊎ Stands next [] file → KeepRow head entries (files ++ file ∷ [])
+begun_keep head batches entries older own next is have bytes all goes files are file (inl unbegun) = record {
+  batches = batches;
+  hold = record { row = older ++ own ∷ []; is_row = is; same_settings = have; all = bytes; begun = files; filed = are; behind = file ∷ []; whole = refl; over = unbegun };
+  all = all;
+}
+begun_keep head batches entries older own next is have bytes all goes files are file (inr stands) =
+    let one : Filed = record { head = next; contents = [] } in
+    record {
+      batches = batches;
+      hold = subst (λ (l : List (List ℕ)). Hold (settings_of head) l (files ++ file ∷ [])) (sym bytes)
+          (begun_behind (settings_of head) (older ++ own ∷ []) next files (row_push older own one is goes stands.fits) (settings_push (settings_of head) older own one have goes.settings) are file (inr stands));
+      all = all;
+    }
+
+module _ {D : Type 0} {g : Ghosts D} (seen : D → List ℕ) (may_leave : D → List ℕ → Type 0) (old : RowJournal D g) (head : Head) (older : List Filed) (entries waiting : List Record) (has : HasRow seen may_leave old head older entries waiting) where
+  -- the head that is begun goes on where the newest segment ends
+  pub goes_on : IsNext (filed old.newest has.contents) (next_head (head_of old.newest) old.newest.end.chain)
+  goes_on = record { number = refl; before = has.newest.knows.end.chain; settings = refl }
+
+  pub turned_has : (new : RowJournal D g) → HasAll seen may_leave new.newest [] → head_of new.newest ≡ next_head (head_of old.newest) old.newest.end.chain → new.waiting.items ≡ old.waiting.items
+      → HasRow seen may_leave new head (older ++ filed old.newest has.contents ∷ []) entries waiting
+  turned_has new all heads same =
+      let own = filed old.newest has.contents in
+      let one = filed new.newest [] in
+      record {
+        contents = [];
+        newest = all;
+        row = row_push older own one has.row (subst (λ (h : SegmentHead). IsNext own h) (sym heads) goes_on) all.knows.stands.fits;
+        settings = settings_push (settings_of head) older own one has.settings (ap (λ (h : SegmentHead). h.settings) heads);
+        batches = has.batches;
+        bytes = has.bytes ∙ none_more (older ++ own ∷ []) (head_of new.newest);
+        all = has.all;
+        waits = same ∙ has.waits;
+      }
+
+  pub turned_keep : (files : List (List ℕ)) → AreFiled (older ++ filed old.newest has.contents ∷ []) files → (file : List ℕ) → IsUnbegun file ⊎ Stands (next_head (head_of old.newest) old.newest.end.chain) [] file
+      → KeepRow head entries (files ++ file ∷ [])
+  turned_keep files are file left =
+      begun_keep head has.batches entries older (filed old.newest has.contents) (next_head (head_of old.newest) old.newest.end.chain) has.row has.settings has.bytes has.all goes_on files are file left

@@ -1,9 +1,11 @@
 //! A journal over a row of segments: batches of records go to the newest one. What is staged waits in memory until it is
 //! committed.
-ghost use Rattle.std.specs.Prelude.{◌≡◌, ◌⊎◌, ◌≤◌, ◌^◌, ◌++◌, ◌↔◌, [], ◌∷◌, List, ℕ, length, OnOk, OnErr, IsTrue};
+ghost use Rattle.std.specs.Prelude.{◌≡◌, ◌⊎◌, ◌≤◌, ◌^◌, ◌++◌, ◌↔◌, [], ◌∷◌, List, ℕ, length, IfOk, IfErr, OnOk, OnErr, IsTrue};
+ghost use Rattle.sqlite_disk.specs.Disk.{Only};
+ghost use Rattle.sb_durable.specs.Head.{IsUnbegun};
 ghost use Rattle.sb_durable.specs.Records.{Entry, entry_of};
 ghost use Rattle.sb_durable.specs.Row.{Filed, IsRow, HaveSettings, AreFiled, all_contents};
-ghost use Rattle.sb_durable.specs.Segment.{HasAll, IsSpent, device_of};
+ghost use Rattle.sb_durable.specs.Segment.{HasAll, IsSpent, device_of, head_of};
 
 use crate::Record;
 use crate::record::record_bytes;
@@ -11,6 +13,7 @@ use crate::recovery::MAX_CONTENT;
 use crate::segment::{Segment, SegmentError};
 use sqlite_disk::Disk;
 use std::alloc::Global;
+use std::mem;
 
 pub struct RowJournal<D: Disk> {
     alloc: Global,
@@ -87,6 +90,37 @@ impl<D: Disk> RowJournal<D> {
         self.newest.append(self.alloc, &self.waiting)?;
         self.waiting.clear();
         Ok(())
+    }
+
+    /// Begins the next segment in a file that hasn't begun: batches go there from then on. Gives back the file of the one
+    /// before. Error: batches go where they went, and the file is given back.
+    pub fn turn(&mut self, device: D) -> Result<D, (SegmentError, D)>
+        requires usable { IsTrue (D.Disk.is_usable device) }
+        requires settings { length (head_of (newest_of self.old)).settings ≤ 4096 }
+        ensures ok { IfOk result (λ full. IsTrue (D.Disk.is_clean (disk_of self.new)) → (head : TheHead) (older : List Filed) (entries waiting : List Entry)
+            → (has : HasRow D.Disk.seen D.Disk.may_leave self.old head older entries waiting)
+            → HasRow D.Disk.seen D.Disk.may_leave self.new head (older ++ filed (newest_of self.old) has.contents ∷ []) entries waiting) }
+        ensures full { IfOk result (λ full. full ≡ disk_of self.old) }
+
+        // A crash at any moment of the call leaves a file behind the others that hasn't begun, or the whole head.
+        ensures any_moment { IfOk result (λ full. IsTrue (D.Disk.is_clean (disk_of self.new)) → Only (D.Disk.seen device) (D.Disk.may_leave device) → IsUnbegun (D.Disk.seen device)
+            → (head : TheHead) (older : List Filed) (entries waiting : List Entry) (has : HasRow D.Disk.seen D.Disk.may_leave self.old head older entries waiting)
+            → (files : List (List ℕ)) → AreFiled (older ++ filed (newest_of self.old) has.contents ∷ []) files
+            → (file : List ℕ) → D.Disk.may_leave (disk_of self.new) file → KeepRow head entries (files ++ file ∷ [])) }
+        ensures any_moment_err { IfErr result (λ e. IsTrue (D.Disk.is_clean e.1) → Only (D.Disk.seen device) (D.Disk.may_leave device) → IsUnbegun (D.Disk.seen device)
+            → (head : TheHead) (older : List Filed) (entries waiting : List Entry) (has : HasRow D.Disk.seen D.Disk.may_leave self.old head older entries waiting)
+            → (files : List (List ℕ)) → AreFiled (older ++ filed (newest_of self.old) has.contents ∷ []) files
+            → (file : List ℕ) → D.Disk.may_leave e.1 file → KeepRow head entries (files ++ file ∷ [])) }
+        ensures err { IfErr result (λ e. (head : TheHead) (older : List Filed) (entries waiting : List Entry) → HasRow D.Disk.seen D.Disk.may_leave self.old head older entries waiting
+            → HasRow D.Disk.seen D.Disk.may_leave self.new head older entries waiting) }
+    {
+        match self.newest.begin_next(self.alloc, device) {
+            Ok(next) => {
+                let full = mem::replace(&mut self.newest, next);
+                Ok(full.close())
+            }
+            Err((error, device)) => Err((error, device)),
+        }
     }
 
     /// True if a write or a sync has failed. Then nothing more is written.
