@@ -31,6 +31,7 @@ mod SegmentPlaces
 mod Begun
 mod CutFiles
 mod Rows
+mod RowReaders
 mod Volumes
 mod RowJournals
 mod VolumeLives

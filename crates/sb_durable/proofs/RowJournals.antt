@@ -1,18 +1,19 @@
 -- Journals in the files of a folder.
-use Rattle.std.proofs.Common.{◌≡◌, ◌⊎◌, ℕ, List, [], ◌∷◌, ◌++◌, length, drop, refl, sym, ap, ◌∙◌, inl, inr, arith, append_assoc, subst}
-use Rattle.sb_durable.specs.Head.{Head as SegmentHead, IsHead, IsUnbegun, Stands}
+use Rattle.std.proofs.Common.{◌≡◌, ◌⊎◌, ℕ, List, [], ◌∷◌, ◌++◌, length, drop, refl, sym, ap, ◌∙◌, inl, inr, arith, append_assoc, append-nil, subst}
+use Rattle.sb_durable.specs.Head.{Head as SegmentHead, IsUnbegun, IsLeft}
 use Rattle.sb_durable.specs.Journal.{contents_of, all_of}
 use Rattle.sb_durable.specs.Records.{Entry as Record, bytes_of}
 use Rattle.sb_durable.specs.Restart.{ends}
-use Rattle.sb_durable.specs.Row.{Filed, IsNext, next_head, Continue, IsRow, HaveSettings, AreFiled, IsRowEnd, Hold, HoldBeforeOrAfter, all_contents}
+use Rattle.sb_durable.specs.Row.{Filed, IsNext, next_head, IsRow, HaveSettings, AreLeft, IsRowEnd, Hold, HoldBeforeOrAfter, all_contents}
 use Rattle.sqlite_disk.specs.declared.Disk.{Ghosts}
-use Rattle.sb_durable.specs.RowJournals.{HasRow, filed}
+use Rattle.sb_durable.specs.RowJournals.{HasRow}
+use Rattle.sb_durable.specs.RowReaders.{filed}
 use Rattle.sb_durable.specs.Segment.{HasAll, head_of}
 use Rattle.sb_durable.specs.declared.row_journal.RowJournal.{RowJournal}
 use Rattle.sb_durable.specs.RowJournal.{settings_of, KeepRow, FoldersCanLoseTheirOldest, RestartsAreTheSame}
 use Rattle.sb_durable.specs.declared.journal_header.Head.{Head}
 use Rattle.sb_durable.proofs.Batches.{contents-push, all_more}
-use Rattle.sb_durable.proofs.Rows.{begun_behind, push_row, push_settings, push_contents}
+use Rattle.sb_durable.proofs.Rows.{begun_behind, push_row, push_settings, push_contents, row_push, settings_push, left-push}
 use Rattle.sb_durable.proofs.Volumes.{old_segments_can_go}
 use Rattle.sb_tenant.specs.State.{State}
 use Rattle.sb_tenant.specs.Trail.{state_after}
@@ -43,19 +44,19 @@ record Later (settings : List ℕ) (contents : List (List ℕ)) (files : List (L
   split : contents ≡ front ++ rest
   hold : Hold settings rest files
 
-later_by : (settings : List ℕ) (file : List ℕ) (files : List (List ℕ)) (row : List Filed) (begun behind : List (List ℕ)) → IsRow row → HaveSettings settings row → AreFiled row begun → (file ∷ files) ≡ begun ++ behind → IsRowEnd behind
+later_by : (settings : List ℕ) (file : List ℕ) (files : List (List ℕ)) (row : List Filed) (begun behind : List (List ℕ)) → IsRow row → HaveSettings settings row → AreLeft row begun → (file ∷ files) ≡ begun ++ behind → IsRowEnd behind
     → Later settings (all_contents row) files
-later_by settings file files [] [] [] is have filed whole over = absurd (omega (arith, ap length whole))
-later_by settings file files [] [] (one ∷ []) is have filed whole over = record {
+later_by settings file files [] [] [] is have are whole over = absurd (omega (arith, ap length whole))
+later_by settings file files [] [] (one ∷ []) is have are whole over = record {
   front = [];
   rest = [];
   split = refl;
-  hold = record { row = []; is_row = tt; same_settings = tt; all = refl; begun = []; filed = tt; behind = []; whole = ap (λ (l : List (List ℕ)). drop 1 l) whole; over = tt };
+  hold = record { row = []; is_row = tt; same_settings = tt; all = refl; begun = []; are = tt; behind = []; whole = ap (λ (l : List (List ℕ)). drop 1 l) whole; over = tt };
 }
-later_by settings file files [] [] (one ∷ other ∷ more) is have filed whole over = absurd over
-later_by settings file files [] (one ∷ begun) behind is have filed whole over = absurd filed
-later_by settings file files (one ∷ row) [] behind is have filed whole over = absurd filed
-later_by settings file files (one ∷ row) (first ∷ begun) behind is have filed whole over = record {
+later_by settings file files [] [] (one ∷ other ∷ more) is have are whole over = absurd over
+later_by settings file files [] (one ∷ begun) behind is have are whole over = absurd are
+later_by settings file files (one ∷ row) [] behind is have are whole over = absurd are
+later_by settings file files (one ∷ row) (first ∷ begun) behind is have are whole over = record {
   front = one.contents;
   rest = all_contents row;
   split = refl;
@@ -65,7 +66,7 @@ later_by settings file files (one ∷ row) (first ∷ begun) behind is have file
     same_settings = have.1;
     all = refl;
     begun = begun;
-    filed = filed.1;
+    are = are.1;
     behind = behind;
     whole = ap (λ (l : List (List ℕ)). drop 1 l) whole;
     over = over;
@@ -75,7 +76,7 @@ later_by settings file files (one ∷ row) (first ∷ begun) behind is have file
 pub folders_can_lose_their_oldest : FoldersCanLoseTheirOldest
 folders_can_lose_their_oldest head records file files keeps =
     let hold = keeps.hold in
-    let later = later_by (settings_of head) file files hold.row hold.begun hold.behind hold.is_row hold.same_settings hold.filed hold.whole hold.over in
+    let later = later_by (settings_of head) file files hold.row hold.begun hold.behind hold.is_row hold.same_settings hold.are hold.whole hold.over in
     let parts = parted later.front later.rest keeps.batches (hold.all ∙ later.split) in (
       all_of parts.older,
       all_of parts.newer,
@@ -120,37 +121,25 @@ module _ (settings : List ℕ) (older : List Filed) (own next : SegmentHead) (co
 
 -- ---- one segment more
 
-continue_push : (one : Filed) (row : List Filed) (own next : Filed) → Continue one (row ++ own ∷ []) → Continue one ((row ++ own ∷ []) ++ next ∷ [])
-continue_push one [] own next goes = goes
-continue_push one (a ∷ row) own next goes = goes
-
-pub row_push : (row : List Filed) (own next : Filed) → IsRow (row ++ own ∷ []) → IsNext own next.head → IsHead next.head → IsRow ((row ++ own ∷ []) ++ next ∷ [])
-row_push [] own next is goes fits = (is.0, goes, (fits, tt, tt))
-row_push (one ∷ row) own next is goes fits = (is.0, continue_push one row own next is.1, row_push row own next is.2 goes fits)
-
-pub settings_push : (settings : List ℕ) (row : List Filed) (own next : Filed) → HaveSettings settings (row ++ own ∷ []) → next.head.settings ≡ own.head.settings → HaveSettings settings ((row ++ own ∷ []) ++ next ∷ [])
-settings_push settings [] own next have same = (have.0, (same ∙ have.0, tt))
-settings_push settings (one ∷ row) own next have same = (have.0, settings_push settings row own next have.1 same)
-
 pub none_more : (row : List Filed) (head : SegmentHead) → all_contents row ≡ all_contents (row ++ (record { head = head; contents = [] }) ∷ [])
 none_more [] head = refl
 none_more (one ∷ row) head = ap (λ (l : List (List ℕ)). one.contents ++ l) (none_more row head)
 
 -- what is left of a segment that is begun behind the newest
 pub begun_keep : (head : Head) (batches : List (List Record)) (entries : List Record) (older : List Filed) (own : Filed) (next : SegmentHead) → IsRow (older ++ own ∷ []) → HaveSettings (settings_of head) (older ++ own ∷ [])
-    → contents_of batches ≡ all_contents (older ++ own ∷ []) → entries ≡ all_of batches → IsNext own next → (files : List (List ℕ)) → AreFiled (older ++ own ∷ []) files
-    → (file : List ℕ) → IsUnbegun file ⊎ Stands next [] file → KeepRow head entries (files ++ file ∷ [])
+    → contents_of batches ≡ all_contents (older ++ own ∷ []) → entries ≡ all_of batches → IsNext own next → (files : List (List ℕ)) → AreLeft (older ++ own ∷ []) files
+    → (file : List ℕ) → IsUnbegun file ⊎ IsLeft next [] file → KeepRow head entries (files ++ file ∷ [])
 begun_keep head batches entries older own next is have bytes all goes files are file (inl unbegun) = record {
   batches = batches;
-  hold = record { row = older ++ own ∷ []; is_row = is; same_settings = have; all = bytes; begun = files; filed = are; behind = file ∷ []; whole = refl; over = unbegun };
+  hold = record { row = older ++ own ∷ []; is_row = is; same_settings = have; all = bytes; begun = files; are = are; behind = file ∷ []; whole = refl; over = unbegun };
   all = all;
 }
-begun_keep head batches entries older own next is have bytes all goes files are file (inr stands) =
+begun_keep head batches entries older own next is have bytes all goes files are file (inr left) =
     let one : Filed = record { head = next; contents = [] } in
     record {
       batches = batches;
       hold = subst (λ (l : List (List ℕ)). Hold (settings_of head) l (files ++ file ∷ [])) (sym bytes)
-          (begun_behind (settings_of head) (older ++ own ∷ []) next files (row_push older own one is goes stands.fits) (settings_push (settings_of head) older own one have goes.settings) are file (inr stands));
+          (begun_behind (settings_of head) (older ++ own ∷ []) next files (row_push older own one is goes left.stands.fits) (settings_push (settings_of head) older own one have goes.settings) are file (inr left));
       all = all;
     }
 
@@ -175,7 +164,47 @@ module _ {D : Type 0} {g : Ghosts D} (seen : D → List ℕ) (may_leave : D → 
         waits = same ∙ has.waits;
       }
 
-  pub turned_keep : (files : List (List ℕ)) → AreFiled (older ++ filed old.newest has.contents ∷ []) files → (file : List ℕ) → IsUnbegun file ⊎ Stands (next_head (head_of old.newest) old.newest.end.chain) [] file
+  pub turned_keep : (files : List (List ℕ)) → AreLeft (older ++ filed old.newest has.contents ∷ []) files → (file : List ℕ) → IsUnbegun file ⊎ IsLeft (next_head (head_of old.newest) old.newest.end.chain) [] file
       → KeepRow head entries (files ++ file ∷ [])
   turned_keep files are file left =
       begun_keep head has.batches entries older (filed old.newest has.contents) (next_head (head_of old.newest) old.newest.end.chain) has.row has.settings has.bytes has.all goes_on files are file left
+
+-- ---- what a folder keeps between two calls
+
+-- the files of a row, each left as its segment
+pub keep_now : (head : Head) (batches : List (List Record)) (older : List Filed) (own : Filed) → IsRow (older ++ own ∷ []) → HaveSettings (settings_of head) (older ++ own ∷ []) → contents_of batches ≡ all_contents (older ++ own ∷ [])
+    → (files : List (List ℕ)) → AreLeft older files → (file : List ℕ) → IsLeft own.head own.contents file → KeepRow head (all_of batches) (files ++ file ∷ [])
+keep_now head batches older own is have bytes files are file left = record {
+  batches = batches;
+  hold = record {
+    row = older ++ own ∷ [];
+    is_row = is;
+    same_settings = have;
+    all = bytes;
+    begun = files ++ file ∷ [];
+    are = left-push older files own file are left;
+    behind = [];
+    whole = sym (append-nil (files ++ file ∷ []));
+    over = tt;
+  };
+  all = refl;
+}
+
+-- a first file, which has not begun or has its head
+pub keep_first : (head : Head) (own : SegmentHead) (file : List ℕ) → own.settings ≡ settings_of head → IsUnbegun file ⊎ IsLeft own [] file → KeepRow head [] (file ∷ [])
+keep_first head own file same (inl unbegun) = record {
+  batches = [];
+  hold = record { row = []; is_row = tt; same_settings = tt; all = refl; begun = []; are = tt; behind = file ∷ []; whole = refl; over = unbegun };
+  all = refl;
+}
+keep_first head own file same (inr left) = keep_now head [] [] (record { head = own; contents = [] }) (left.stands.fits, tt, tt) (same, tt) refl [] tt file left
+
+-- the same row, whose newest segment was mended
+pub opened_row : (settings : List ℕ) (older : List Filed) (was now : Filed) (contents : List (List ℕ)) → now.head ≡ was.head → now.contents ≡ was.contents → IsRow (older ++ was ∷ []) → HaveSettings settings (older ++ was ∷ [])
+    → contents ≡ all_contents (older ++ was ∷ []) → IsRow (older ++ now ∷ []) × HaveSettings settings (older ++ now ∷ []) × (contents ≡ all_contents (older ++ now ∷ []))
+opened_row settings older was now contents heads same is have all =
+    let back : was ≡ now = λ i. record { head = sym heads i; contents = sym same i } in (
+      subst (λ (one : Filed). IsRow (older ++ one ∷ [])) back is,
+      subst (λ (one : Filed). HaveSettings settings (older ++ one ∷ [])) back have,
+      subst (λ (one : Filed). contents ≡ all_contents (older ++ one ∷ [])) back all,
+    )

@@ -1,9 +1,9 @@
 -- Rows of segments.
 use Rattle.std.proofs.Common.{◌≡◌, ◌⊎◌, ℕ, List, [], ◌∷◌, ◌++◌, length, refl, sym, ap, ◌∙◌, inl, inr, arith, append_assoc, append-nil}
 use Rattle.std.proofs.lemmas.List.Concat.{flat_map-append}
-use Rattle.sb_durable.specs.Head.{Head, Stands}
+use Rattle.sb_durable.specs.Head.{Head, IsHead, IsLeft}
 use Rattle.sb_durable.specs.Chain.{HasCollision}
-use Rattle.sb_durable.specs.Row.{Filed, binding, Continue, IsRow, row_digest, all_contents, HaveSettings, AreFiled, OneEndOneRow, OneFolderOneRow, NewerAreARow, OnlyTheNewestIsWritten, BegunBehind}
+use Rattle.sb_durable.specs.Row.{Filed, IsNext, binding, Continue, IsRow, row_digest, all_contents, HaveSettings, AreLeft, OneEndOneRow, OneFolderOneRow, NewerAreARow, OnlyTheNewestIsWritten, BegunBehind}
 use Rattle.sb_durable.proofs.Chain.{one_end_one_segment}
 use Rattle.sb_durable.proofs.SegmentReading.{one_file_one_segment}
 
@@ -63,11 +63,11 @@ pub newer_are_a_row : NewerAreARow
 newer_are_a_row [] newer is = is
 newer_are_a_row (one ∷ older) newer is = newer_are_a_row older newer is.2
 
-filed-push : (row : List Filed) (files : List (List ℕ)) (one : Filed) (file : List ℕ) → AreFiled row files → Stands one.head one.contents file → AreFiled (row ++ one ∷ []) (files ++ file ∷ [])
-filed-push [] [] one file filed stands = (stands, tt)
-filed-push [] (f ∷ files) one file filed stands = absurd filed
-filed-push (a ∷ row) [] one file filed stands = absurd filed
-filed-push (a ∷ row) (f ∷ files) one file filed stands = (filed.0, filed-push row files one file filed.1 stands)
+pub left-push : (row : List Filed) (files : List (List ℕ)) (one : Filed) (file : List ℕ) → AreLeft row files → IsLeft one.head one.contents file → AreLeft (row ++ one ∷ []) (files ++ file ∷ [])
+left-push [] [] one file are left = (left, tt)
+left-push [] (f ∷ files) one file are left = absurd are
+left-push (a ∷ row) [] one file are left = absurd are
+left-push (a ∷ row) (f ∷ files) one file are left = (are.0, left-push row files one file are.1 left)
 
 -- ---- the newest segment
 
@@ -98,26 +98,26 @@ push_contents (one ∷ older) newest content =
     append_assoc one.contents (all_contents (older ++ newest ∷ [])) (content ∷ []) ∙ ap (λ (l : List (List ℕ)). one.contents ++ l) (push_contents older newest content)
 
 pub only_the_newest_is_written : OnlyTheNewestIsWritten
-only_the_newest_is_written settings older newest files is have filed content file (inl before) =
+only_the_newest_is_written settings older newest files is have are content file (inl before) =
     inl (record {
       row = older ++ newest ∷ [];
       is_row = is;
       same_settings = have;
       all = refl;
       begun = files ++ file ∷ [];
-      filed = filed-push older files newest file filed before.stands;
+      are = left-push older files newest file are before;
       behind = [];
       whole = sym (append-nil (files ++ file ∷ []));
       over = tt;
     })
-only_the_newest_is_written settings older newest files is have filed content file (inr after) =
+only_the_newest_is_written settings older newest files is have are content file (inr after) =
     inr (record {
       row = older ++ with_more newest content ∷ [];
       is_row = push_row older newest content is;
       same_settings = push_settings settings older newest content have;
       all = push_contents older newest content;
       begun = files ++ file ∷ [];
-      filed = filed-push older files (with_more newest content) file filed after.stands;
+      are = left-push older files (with_more newest content) file are after;
       behind = [];
       whole = sym (append-nil (files ++ file ∷ []));
       over = tt;
@@ -133,18 +133,18 @@ front_settings settings [] one have = tt
 front_settings settings (a ∷ row) one have = (have.0, front_settings settings row one have.1)
 
 pub begun_behind : BegunBehind
-begun_behind settings row head files is have filed file (inl unbegun) = record {
+begun_behind settings row head files is have are file (inl unbegun) = record {
   row = row;
   is_row = front_row row (record { head = head; contents = [] }) is;
   same_settings = front_settings settings row (record { head = head; contents = [] }) have;
   all = refl;
   begun = files;
-  filed = filed;
+  are = are;
   behind = file ∷ [];
   whole = refl;
   over = unbegun;
 }
-begun_behind settings row head files is have filed file (inr stands) =
+begun_behind settings row head files is have are file (inr left) =
     let next : Filed = record { head = head; contents = [] } in
     record {
       row = row ++ next ∷ [];
@@ -152,8 +152,22 @@ begun_behind settings row head files is have filed file (inr stands) =
       same_settings = have;
       all = sym (flat_map-append (λ (one : Filed). one.contents) row (next ∷ []) ∙ append-nil (all_contents row));
       begun = files ++ file ∷ [];
-      filed = filed-push row files next file filed stands;
+      are = left-push row files next file are left;
       behind = [];
       whole = sym (append-nil (files ++ file ∷ []));
       over = tt;
     }
+
+-- ---- one segment more
+
+continue_push : (one : Filed) (row : List Filed) (own next : Filed) → Continue one (row ++ own ∷ []) → Continue one ((row ++ own ∷ []) ++ next ∷ [])
+continue_push one [] own next goes = goes
+continue_push one (a ∷ row) own next goes = goes
+
+pub row_push : (row : List Filed) (own next : Filed) → IsRow (row ++ own ∷ []) → IsNext own next.head → IsHead next.head → IsRow ((row ++ own ∷ []) ++ next ∷ [])
+row_push [] own next is goes fits = (is.0, goes, (fits, tt, tt))
+row_push (one ∷ row) own next is goes fits = (is.0, continue_push one row own next is.1, row_push row own next is.2 goes fits)
+
+pub settings_push : (settings : List ℕ) (row : List Filed) (own next : Filed) → HaveSettings settings (row ++ own ∷ []) → next.head.settings ≡ own.head.settings → HaveSettings settings ((row ++ own ∷ []) ++ next ∷ [])
+settings_push settings [] own next have same = (have.0, (same ∙ have.0, tt))
+settings_push settings (one ∷ row) own next have same = (have.0, settings_push settings row own next have.1 same)

@@ -1,7 +1,8 @@
 -- Promise: one digest at the end binds a whole segment.
-use Rattle.std.specs.Prelude.{◌≡◌, ◌≢◌, ◌⊎◌, ℕ, List, [], ◌∷◌, take, slice_index}
+use Rattle.std.specs.Prelude.{◌≡◌, ◌≢◌, ◌⊎◌, ◌^◌, ◌<◌, ℕ, List, [], ◌∷◌, take, slice_index, bit_xor}
 use Rattle.sqlite_disk.specs.Digest.{digest}
-use Rattle.sb_durable.specs.Head.{Head, IsHead, IsUnbegun, IsCutHead, head_digest, last_digest, Stands, IsLeft}
+use Rattle.sb_durable.specs.Head.{Head, IsHead, IsUnbegun, IsCutHead, file_gate, head_digest, last_digest, Stands, IsLeft}
+use Rattle.sb_durable.specs.SegmentBlocks.{IsOpen, open_gate}
 use Rattle.sb_durable.specs.Segment.{Bears, IsBehind}
 use Rattle.sb_durable.specs.declared.segment.place.Place.{Place}
 
@@ -27,6 +28,10 @@ abbrev pub CutFilesStand : Type 0
 CutFilesStand = (head : Head) (contents : List (List ℕ)) (file : List ℕ) (n : ℕ) → Stands head contents file
     → IsUnbegun (take n file) ⊎ (IsCutHead (take n file) ⊎ ((k : ℕ) × Stands head (take k contents) (take n file)))
 
+-- no flipped bit shuts a gate that was written
+abbrev pub FlipsShutNoGate : Type 0
+FlipsShutNoGate = (bit : ℕ) → bit < 8 → IsOpen (bit_xor open_gate (2 ^ bit)) × IsOpen (bit_xor file_gate (2 ^ bit))
+
 -- these contents lie between two places, one behind the other, as they were read
 abbrev pub Leads : Place → List (List ℕ) → Place → Type 0
 Leads from [] to = from.chain ≡ to.chain
@@ -37,7 +42,7 @@ abbrev pub WhatIsReadIsBound : Type 0
 WhatIsReadIsBound = (head : Head) (contents : List (List ℕ)) (first end : Place) → first.chain ≡ head_digest head → Leads first contents end
     → end.chain ≡ last_digest head contents
 
--- what a crash leaves has no open gate behind its last block
+-- what a crash leaves has a shut gate behind its last block
 abbrev pub CrashesEndShut : Type 0
 CrashesEndShut = (head : Head) (contents : List (List ℕ)) (file : List ℕ) (end : Place) → IsLeft head contents file → IsBehind head contents end
-    → slice_index file end.at ≢ 1
+    → IsOpen (slice_index file end.at) → ⊥

@@ -15,6 +15,7 @@ pub mod Journal
 pub mod LogHeaders
 pub mod PendingEntries
 pub mod File
+pub mod Folders
 pub mod SegmentBlocks
 pub mod Head
 pub mod Chain
@@ -22,6 +23,7 @@ pub mod Segment
 pub mod SegmentEnds
 pub mod Row
 pub mod RowFaults
+pub mod RowReaders
 pub mod VolumeRecords
 pub mod RowJournal
 pub mod VolumeLives

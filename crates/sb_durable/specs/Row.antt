@@ -1,6 +1,6 @@
 -- Promise: a journal as a row of segments, each of which goes on where the one before it ends.
 use Rattle.std.specs.Prelude.{◌≡◌, ◌⊎◌, ℕ, ◌+◌, List, [], ◌∷◌, ◌++◌, length, flat_map}
-use Rattle.sb_durable.specs.Head.{Head, IsHead, IsUnbegun, IsBeforeOrAfter, last_digest, Stands}
+use Rattle.sb_durable.specs.Head.{Head, IsHead, IsUnbegun, IsBeforeOrAfter, IsLeft, last_digest, Stands}
 use Rattle.sb_durable.specs.Chain.{HasCollision}
 
 -- a segment as its file has it
@@ -57,6 +57,13 @@ AreFiled (one ∷ more) (file ∷ files) = Stands one.head one.contents file × 
 AreFiled [] (file ∷ files) = ⊥
 AreFiled (one ∷ more) [] = ⊥
 
+-- each is as a crash leaves it
+abbrev pub AreLeft : List Filed → List (List ℕ) → Type 0
+AreLeft [] [] = Unit {0}
+AreLeft (one ∷ more) (file ∷ files) = IsLeft one.head one.contents file × AreLeft more files
+AreLeft [] (file ∷ files) = ⊥
+AreLeft (one ∷ more) [] = ⊥
+
 -- there is no more behind the newest segment than a file that has not begun
 abbrev pub IsRowEnd : List (List ℕ) → Type 0
 IsRowEnd [] = Unit {0}
@@ -70,7 +77,7 @@ pub record Hold (settings : List ℕ) (contents : List (List ℕ)) (files : List
   pub same_settings : HaveSettings settings row
   pub all : contents ≡ all_contents row
   pub begun : List (List ℕ)
-  pub filed : AreFiled row begun
+  pub are : AreLeft row begun
   pub behind : List (List ℕ)
   pub whole : files ≡ begun ++ behind
   pub over : IsRowEnd behind
@@ -98,7 +105,7 @@ NewerAreARow = (older newer : List Filed) → IsRow (older ++ newer) → IsRow n
 -- Only the newest segment is written: what an append may leave of its file, the folder has before or after it.
 abbrev pub OnlyTheNewestIsWritten : Type 0
 OnlyTheNewestIsWritten =
-    (settings : List ℕ) (older : List Filed) (newest : Filed) (files : List (List ℕ)) → IsRow (older ++ newest ∷ []) → HaveSettings settings (older ++ newest ∷ []) → AreFiled older files
+    (settings : List ℕ) (older : List Filed) (newest : Filed) (files : List (List ℕ)) → IsRow (older ++ newest ∷ []) → HaveSettings settings (older ++ newest ∷ []) → AreLeft older files
     → (content file : List ℕ) → IsBeforeOrAfter newest.head newest.contents content file
     → HoldBeforeOrAfter settings (all_contents (older ++ newest ∷ [])) content (files ++ file ∷ [])
 
@@ -106,5 +113,5 @@ OnlyTheNewestIsWritten =
 abbrev pub BegunBehind : Type 0
 BegunBehind =
     (settings : List ℕ) (row : List Filed) (head : Head) (files : List (List ℕ)) → IsRow (row ++ (record { head = head; contents = [] }) ∷ [])
-    → HaveSettings settings (row ++ (record { head = head; contents = [] }) ∷ []) → AreFiled row files
-    → (file : List ℕ) → IsUnbegun file ⊎ Stands head [] file → Hold settings (all_contents row) (files ++ file ∷ [])
+    → HaveSettings settings (row ++ (record { head = head; contents = [] }) ∷ []) → AreLeft row files
+    → (file : List ℕ) → IsUnbegun file ⊎ IsLeft head [] file → Hold settings (all_contents row) (files ++ file ∷ [])

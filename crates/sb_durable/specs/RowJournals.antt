@@ -5,14 +5,11 @@ use Rattle.sb_durable.specs.Journal.{contents_of, all_of}
 use Rattle.sb_durable.specs.Records.{Entry, bytes_of}
 use Rattle.sb_durable.specs.Row.{Filed, IsRow, HaveSettings, all_contents}
 use Rattle.sb_durable.specs.RowJournal.{settings_of}
-use Rattle.sb_durable.specs.Segment.{HasAll, device_of, head_of}
+use Rattle.sb_durable.specs.RowReaders.{filed}
+use Rattle.sb_durable.specs.Segment.{HasAll, device_of}
 use Rattle.sb_durable.specs.declared.journal_header.Head.{Head}
 use Rattle.sb_durable.specs.declared.row_journal.RowJournal.{RowJournal}
 use Rattle.sb_durable.specs.declared.segment.segment.Segment.{Segment}
-
--- a segment with these contents
-abbrev pub filed : {D : Type 0} → Segment D → List (List ℕ) → Filed
-filed segment contents = record { head = head_of segment; contents = contents }
 
 -- Behind these older segments the journal's newest one has the last of these records, all of them on the disk, and these others wait in memory.
 pub record HasRow {D : Type 0} {g : Ghosts D} (seen : D → List ℕ) (may_leave : D → List ℕ → Type 0) (journal : RowJournal D g) (head : Head) (older : List Filed) (entries waiting : List Entry) : Type 0 where

@@ -3,8 +3,8 @@ use Rattle.std.specs.Prelude.{◌≡◌, ◌≢◌, ℕ, ◌+◌, List, [], ◌�
 use Rattle.std.specs.List.{AllByRecursion}
 use Rattle.sqlite_disk.specs.Disk.{Only}
 use Rattle.sqlite_disk.specs.Digest.{digest}
-use Rattle.sb_durable.specs.SegmentBlocks.{blocks, IsContent}
-use Rattle.sb_durable.specs.Head.{Head, IsHead, head_bytes, head_digest, last_digest, Stands}
+use Rattle.sb_durable.specs.SegmentBlocks.{AreBlocks, IsContent, IsOpen, size_of}
+use Rattle.sb_durable.specs.Head.{Head, IsHead, head_bytes, head_digest, head_size, last_digest, Stands, IsOpened}
 use Rattle.sb_durable.specs.declared.segment.error.SegmentError.{SegmentError}
 use Rattle.sb_durable.specs.declared.segment.error.SegmentError.TheVariants.{Damaged, NotBegun, CutShort}
 use Rattle.sb_durable.specs.declared.segment.place.Place.{Place}
@@ -39,11 +39,11 @@ IsSettled segment = IsTrue segment.is_settled
 
 -- its file ends within a block whose gate is open, as no crash leaves it
 abbrev pub EndsWithin : {D : Type 0} → (D → List ℕ) → Segment D → Type 0
-EndsWithin seen segment = slice_index (seen segment.device) segment.end.at ≡ 1
+EndsWithin seen segment = IsOpen (slice_index (seen segment.device) segment.end.at)
 
 -- The place is right behind these contents, and its digest binds them.
 pub record IsBehind (head : Head) (contents : List (List ℕ)) (place : Place) : Type 0 where
-  pub at : place.at ≡ length (head_bytes head) + length (blocks (head_digest head) contents)
+  pub at : place.at ≡ head_size head + size_of contents
   pub chain : place.chain ≡ last_digest head contents
 
 -- a file that is no segment's is refused: it isn't opened, and isn't called damaged, not begun or cut short
@@ -76,9 +76,9 @@ pub record Knows {D : Type 0} (seen : D → List ℕ) (segment : Segment D) (con
 
 -- the head, the blocks and a shut gate, and nothing behind it
 pub record IsAtRest (head : Head) (contents : List (List ℕ)) (file : List ℕ) : Type 0 where
-  pub gate : ℕ
-  pub shut : gate ≢ 1
-  pub whole : file ≡ head_bytes head ++ (blocks (head_digest head) contents ++ gate ∷ [])
+  pub front : List ℕ
+  pub are : AreBlocks (head_digest head) contents front
+  pub begins : IsOpened (head_bytes head ++ (front ++ 0 ∷ [])) file
 
 -- The segment has these contents, all of them on the disk, so that a crash leaves them.
 pub record HasAll {D : Type 0} (seen : D → List ℕ) (may_leave : D → List ℕ → Type 0) (segment : Segment D) (contents : List (List ℕ)) : Type 0 where

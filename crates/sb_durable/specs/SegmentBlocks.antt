@@ -7,18 +7,31 @@ use Rattle.sqlite_disk.specs.Digest.{digest}
 abbrev pub IsContent : List ℕ → Type 0
 IsContent content = length content ≤ 2 ^ 20
 
+-- A gate is a byte. It is shut if that is 0, and else it is open.
+abbrev pub IsOpen : ℕ → Type 0
+IsOpen gate = gate ≢ 0
+
+-- an open gate as it is written
+abbrev pub open_gate : ℕ
+open_gate = 255
+
 -- four bytes of length, the digest of the content, and the content
 abbrev pub body : ℕ → List ℕ → List ℕ
 body own content = to_be_bytes w32 (length content) ++ (to_be_bytes w64 own ++ content)
 
--- A block: an open gate, which is 1, and the body behind it. The digest of its content is taken under the one before.
-abbrev pub block : ℕ → List ℕ → List ℕ
-block before content = 1 ∷ body (digest before content) content
+-- A block: a gate, and the body behind it. The digest of its content is taken under the one before.
+abbrev pub block : ℕ → ℕ → List ℕ → List ℕ
+block gate before content = gate ∷ body (digest before content) content
 
--- blocks one behind the other, each under the digest of the one before
-abbrev pub blocks : ℕ → List (List ℕ) → List ℕ
-blocks before [] = []
-blocks before (content ∷ contents) = block before content ++ blocks (digest before content) contents
+-- The bytes are blocks of these contents, one behind the other, each under the digest of the one before, and each gate is open.
+abbrev pub AreBlocks : ℕ → List (List ℕ) → List ℕ → Type 0
+AreBlocks before [] bytes = bytes ≡ []
+AreBlocks before (content ∷ contents) bytes = (gate : ℕ) × (more : List ℕ) × IsOpen gate × (bytes ≡ block gate before content ++ more) × AreBlocks (digest before content) contents more
+
+-- how many bytes they take
+abbrev pub size_of : List (List ℕ) → ℕ
+size_of [] = 0
+size_of (content ∷ contents) = 13 + length content + size_of contents
 
 -- the digest at their end
 abbrev pub end_digest : ℕ → List (List ℕ) → ℕ
@@ -33,11 +46,13 @@ IsCutShort rest =
 -- No block begins here: there is nothing, a shut gate and no more than an append writes behind it, or a body that is cut short.
 abbrev pub IsEnd : List ℕ → Type 0
 IsEnd [] = Unit {0}
-IsEnd (gate ∷ rest) = ((gate ≢ 1) × (length rest ≤ 2 ^ 20 + 13)) ⊎ IsCutShort rest
+IsEnd (gate ∷ rest) = ((gate ≡ 0) × (length rest ≤ 2 ^ 20 + 13)) ⊎ IsCutShort rest
 
--- Behind this digest the bytes are the blocks of these contents, and no block begins behind them.
+-- Behind this digest the bytes are blocks of these contents, and no block begins behind them.
 pub record GoOn (before : ℕ) (contents : List (List ℕ)) (bytes : List ℕ) : Type 0 where
   pub each : AllByRecursion IsContent contents
+  pub front : List ℕ
+  pub are : AreBlocks before contents front
   pub end : List ℕ
-  pub whole : bytes ≡ blocks before contents ++ end
+  pub whole : bytes ≡ front ++ end
   pub over : IsEnd end

@@ -4,7 +4,7 @@ ghost use Rattle.std.specs.Prelude.{◌≡◌, ◌⊎◌, ◌≤◌, ◌^◌, �
 ghost use Rattle.sqlite_disk.specs.Disk.{Only};
 ghost use Rattle.sb_durable.specs.Head.{IsUnbegun};
 ghost use Rattle.sb_durable.specs.Records.{Entry, entry_of};
-ghost use Rattle.sb_durable.specs.Row.{Filed, IsRow, HaveSettings, AreFiled, all_contents};
+ghost use Rattle.sb_durable.specs.Row.{Filed, IsRow, HaveSettings, AreLeft, all_contents};
 ghost use Rattle.sb_durable.specs.Segment.{HasAll, IsSpent, device_of, head_of};
 
 use crate::Record;
@@ -36,7 +36,8 @@ impl<D: Disk> RowJournal<D> {
     ghost use Rattle.sb_durable.specs.declared.journal_header.Head.{Head as TheHead};
     ghost use Rattle.sb_durable.specs.Journal.{all_of, contents_of};
     ghost use Rattle.sb_durable.specs.RowJournal.{KeepRow, settings_of};
-    ghost use Rattle.sb_durable.specs.RowJournals.{HasRow, disk_of, filed, newest_of};
+    ghost use Rattle.sb_durable.specs.RowJournals.{HasRow, disk_of, newest_of};
+    ghost use Rattle.sb_durable.specs.RowReaders.{filed};
 
     /// A journal whose newest segment is this one. Nothing is staged.
     pub fn over(alloc: Global, newest: Segment<D>) -> RowJournal<D>
@@ -80,7 +81,7 @@ impl<D: Disk> RowJournal<D> {
 
         // A crash at any moment of the call leaves what was there, or that and all that waited, in the files of the folder.
         ensures any_moment { (head : TheHead) (older : List Filed) (entries waiting : List Entry) → HasRow D.Disk.seen D.Disk.may_leave self.old head older entries waiting
-            → (files : List (List ℕ)) → AreFiled older files → (file : List ℕ) → D.Disk.may_leave (disk_of self.new) file
+            → (files : List (List ℕ)) → AreLeft older files → (file : List ℕ) → D.Disk.may_leave (disk_of self.new) file
             → KeepRow head entries (files ++ file ∷ []) ⊎ KeepRow head (entries ++ waiting) (files ++ file ∷ []) }
         ensures clean { IsTrue (D.Disk.is_clean (disk_of self.new)) → IsTrue (D.Disk.is_clean (disk_of self.old)) }
     {
@@ -105,11 +106,11 @@ impl<D: Disk> RowJournal<D> {
         // A crash at any moment of the call leaves a file behind the others that hasn't begun, or the whole head.
         ensures any_moment { IfOk result (λ full. IsTrue (D.Disk.is_clean (disk_of self.new)) → Only (D.Disk.seen device) (D.Disk.may_leave device) → IsUnbegun (D.Disk.seen device)
             → (head : TheHead) (older : List Filed) (entries waiting : List Entry) (has : HasRow D.Disk.seen D.Disk.may_leave self.old head older entries waiting)
-            → (files : List (List ℕ)) → AreFiled (older ++ filed (newest_of self.old) has.contents ∷ []) files
+            → (files : List (List ℕ)) → AreLeft (older ++ filed (newest_of self.old) has.contents ∷ []) files
             → (file : List ℕ) → D.Disk.may_leave (disk_of self.new) file → KeepRow head entries (files ++ file ∷ [])) }
         ensures any_moment_err { IfErr result (λ e. IsTrue (D.Disk.is_clean e.1) → Only (D.Disk.seen device) (D.Disk.may_leave device) → IsUnbegun (D.Disk.seen device)
             → (head : TheHead) (older : List Filed) (entries waiting : List Entry) (has : HasRow D.Disk.seen D.Disk.may_leave self.old head older entries waiting)
-            → (files : List (List ℕ)) → AreFiled (older ++ filed (newest_of self.old) has.contents ∷ []) files
+            → (files : List (List ℕ)) → AreLeft (older ++ filed (newest_of self.old) has.contents ∷ []) files
             → (file : List ℕ) → D.Disk.may_leave e.1 file → KeepRow head entries (files ++ file ∷ [])) }
         ensures err { IfErr result (λ e. (head : TheHead) (older : List Filed) (entries waiting : List Entry) → HasRow D.Disk.seen D.Disk.may_leave self.old head older entries waiting
             → HasRow D.Disk.seen D.Disk.may_leave self.new head older entries waiting) }

@@ -1,7 +1,8 @@
-//! A segment that is begun. The first byte of its file is a gate: what is behind it counts once it is an F.
-ghost use Rattle.std.specs.Prelude.{◌≡◌, ◌≢◌, ◌⊎◌, ◌++◌, [], ◌∷◌, ◌<◌, ◌≤◌, List, ℕ, length, IfOk, IfErr, OnOk, IsErr, IsTrue};
+//! A segment that is begun. The first byte of its file is a gate: what is behind it counts once that is open. It is
+//! opened as an F, so that the file begins with FILGJRN2.
+ghost use Rattle.std.specs.Prelude.{◌≡◌, ◌≢◌, ◌⊎◌, ◌++◌, [], ◌∷◌, ◌<◌, ◌≤◌, List, ℕ, length, slice_index, IfOk, IfErr, OnOk, IsErr, IsTrue};
 ghost use Rattle.sqlite_disk.specs.Disk.{Only};
-ghost use Rattle.sb_durable.specs.Head.{Head, Stands, IsCutHead, IsForeign, IsUnbegun, IsReady, mark, head_bytes, head_digest};
+ghost use Rattle.sb_durable.specs.Head.{Head, Stands, IsLeft, IsCutHead, IsForeign, IsUnbegun, IsReady, IsOpened, file_gate, mark, head_bytes, head_digest};
 ghost use Rattle.sb_durable.specs.Segment.{HasAll, IsBegun, device_of, head_of, head_in};
 
 use crate::segment::beginning::{Beginning, read_beginning};
@@ -25,14 +26,15 @@ impl<D: Disk> Segment<D> {
         requires usable { IsTrue (D.Disk.is_usable device) }
         requires settings { length settings.now ≤ 4096 }
         ensures ok { IfOk result (λ segment. IsTrue (D.Disk.is_clean (device_of segment)) → HasAll D.Disk.seen D.Disk.may_leave segment []) }
+        ensures gate { IfOk result (λ segment. IsTrue (D.Disk.is_clean (device_of segment)) → slice_index (D.Disk.seen (device_of segment)) 0 ≡ file_gate) }
         ensures head { IfOk result (λ segment. head_of segment ≡ record { number = number; before = before; settings = settings.now }) }
 
         // A crash at any moment of the call leaves a file that hasn't begun, or the whole head. After a restart, what is
         // read is what is on the disk.
         ensures any_moment { IfOk result (λ segment. IsTrue (D.Disk.is_clean (device_of segment)) → Only (D.Disk.seen device) (D.Disk.may_leave device) → IsUnbegun (D.Disk.seen device)
-            → (file : List ℕ) → D.Disk.may_leave (device_of segment) file → IsUnbegun file ⊎ Stands (record { number = number; before = before; settings = settings.now }) [] file) }
+            → (file : List ℕ) → D.Disk.may_leave (device_of segment) file → IsUnbegun file ⊎ IsLeft (record { number = number; before = before; settings = settings.now }) [] file) }
         ensures any_moment_err { IfErr result (λ e. IsTrue (D.Disk.is_clean e.1) → Only (D.Disk.seen device) (D.Disk.may_leave device) → IsUnbegun (D.Disk.seen device)
-            → (file : List ℕ) → D.Disk.may_leave e.1 file → IsUnbegun file ⊎ Stands (record { number = number; before = before; settings = settings.now }) [] file) }
+            → (file : List ℕ) → D.Disk.may_leave e.1 file → IsUnbegun file ⊎ IsLeft (record { number = number; before = before; settings = settings.now }) [] file) }
 
         // A file that has begun, or that is of another program, is refused and left as it is.
         ensures refused { IfOk result (λ segment. IsTrue (D.Disk.is_clean (device_of segment)) → IsUnbegun (D.Disk.seen device)) }
@@ -75,10 +77,10 @@ fn lay_out<D: Disk>(
     requires usable { IsTrue (D.Disk.is_usable disk.old) }
     requires settings { length settings.now ≤ 4096 }
     ensures begun { IfOk result (λ beginning. IsBegun (record { number = number; before = before; settings = settings.now }) beginning) }
-    ensures ok { OnOk result (IsTrue (D.Disk.is_clean disk.new) → D.Disk.seen disk.new ≡ head_bytes (record { number = number; before = before; settings = settings.now }) ++ 0 ∷ []) }
+    ensures ok { OnOk result (IsTrue (D.Disk.is_clean disk.new) → D.Disk.seen disk.new ≡ file_gate ∷ (head_bytes (record { number = number; before = before; settings = settings.now }) ++ 0 ∷ [])) }
     ensures durable { OnOk result (Only (D.Disk.seen disk.new) (D.Disk.may_leave disk.new)) }
     ensures any_moment { IsTrue (D.Disk.is_clean disk.new) → Only (D.Disk.seen disk.old) (D.Disk.may_leave disk.old) → IsUnbegun (D.Disk.seen disk.old)
-        → (file : List ℕ) → D.Disk.may_leave disk.new file → IsUnbegun file ⊎ (file ≡ head_bytes (record { number = number; before = before; settings = settings.now }) ++ 0 ∷ []) }
+        → (file : List ℕ) → D.Disk.may_leave disk.new file → IsUnbegun file ⊎ IsOpened (head_bytes (record { number = number; before = before; settings = settings.now }) ++ 0 ∷ []) file }
     ensures refused { OnOk result (IsTrue (D.Disk.is_clean disk.new) → IsUnbegun (D.Disk.seen disk.old)) }
     ensures kept { IsTrue (D.Disk.is_clean disk.new) → (IsUnbegun (D.Disk.seen disk.old) → ⊥)
         → (D.Disk.seen disk.new ≡ D.Disk.seen disk.old) × ((file : List ℕ) → D.Disk.may_leave disk.new file → D.Disk.may_leave disk.old file) }
@@ -106,10 +108,13 @@ fn whole_head(
 ) -> Result<(Beginning, Vec<u8>), AllocError>
     requires { length settings.now ≤ 4096 }
     ensures begun { IfOk result (λ made. IsBegun (record { number = number; before = before; settings = settings.now }) made.0) }
-    ensures bytes { IfOk result (λ made. made.1.items ≡ head_bytes (record { number = number; before = before; settings = settings.now }) ++ 0 ∷ []) }
+    ensures bytes { IfOk result (λ made. made.1.items ≡ file_gate ∷ (head_bytes (record { number = number; before = before; settings = settings.now }) ++ 0 ∷ [])) }
 {
-    let mut bytes = text_of_head(alloc, number, before, settings)?;
-    let own = digest_of(0, &bytes);
+    let text = text_of_head(alloc, number, before, settings)?;
+    let own = digest_of(0, &text);
+    let mut bytes = Vec::with_capacity(alloc, text.len() + 10)?;
+    bytes.push(b'F')?;
+    bytes.extend_from_slice(&text)?;
     bytes.extend_from_slice(&own.to_be_bytes())?;
     bytes.push(0)?;
     let settings = settings.to_vec(alloc)?;
@@ -122,7 +127,7 @@ fn whole_head(
     Ok((beginning, bytes))
 }
 
-/// Leaves the mark behind a gate that isn't open, and nothing behind that, in a file that hasn't begun.
+/// Leaves the mark behind a shut gate, and nothing behind that, in a file that hasn't begun.
 fn prepare<D: Disk>(alloc: Global, disk: &mut D) -> Result<(), SegmentError>
     requires { IsTrue (D.Disk.is_usable disk.old) }
     ensures ready { OnOk result (IsTrue (D.Disk.is_clean disk.new) → IsReady (D.Disk.seen disk.new)) }
@@ -163,7 +168,7 @@ fn write_head<D: Disk>(disk: &mut D, bytes: &[u8]) -> io::Result<()>
     ensures ok { OnOk result ((rest : List ℕ) → bytes.now ≡ 70 ∷ (mark ++ rest) → IsReady (D.Disk.seen disk.old) → D.Disk.seen disk.new ≡ bytes.now) }
     ensures durable { OnOk result (Only (D.Disk.seen disk.new) (D.Disk.may_leave disk.new)) }
     ensures any_moment { (rest : List ℕ) → bytes.now ≡ 70 ∷ (mark ++ rest) → IsReady (D.Disk.seen disk.old) → Only (D.Disk.seen disk.old) (D.Disk.may_leave disk.old)
-        → (file : List ℕ) → D.Disk.may_leave disk.new file → IsUnbegun file ⊎ (file ≡ bytes.now) }
+        → (file : List ℕ) → D.Disk.may_leave disk.new file → IsUnbegun file ⊎ IsOpened (mark ++ rest) file }
     ensures clean { IsTrue (D.Disk.is_clean disk.new) → IsTrue (D.Disk.is_clean disk.old) }
 {
     disk.write_at(8, &bytes[8..])?;

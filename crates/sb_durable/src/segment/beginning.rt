@@ -1,7 +1,7 @@
 //! What a segment begins with.
 ghost use Rattle.std.specs.Prelude.{◌≡◌, ◌≢◌, ◌+◌, ◌<◌, ◌≤◌, ◌^◌, ◌↔◌, ◌++◌, ◌∷◌, List, ℕ, length, drop, IfOk, IfErr, OnOk, IsTrue, vec_len};
 ghost use Rattle.std.specs.Int.{w32, w64, to_be_bytes};
-ghost use Rattle.sb_durable.specs.Head.{Head, IsHead, IsCutHead, IsForeign, IsUnbegun, mark, head_bytes, head_digest};
+ghost use Rattle.sb_durable.specs.Head.{Head, IsHead, IsCutHead, IsForeign, IsUnbegun, IsOpened, mark, head_bytes, head_digest};
 ghost use Rattle.sb_durable.specs.Segment.{head_in, Refuses};
 
 use crate::segment::SegmentError;
@@ -39,13 +39,13 @@ pub(crate) fn read_beginning<D: Disk>(
     // What is given bears its digest, whatever the disk did.
     ensures bears { IfOk result (λ beginning. (beginning.own ≡ head_digest (head_in beginning)) × IsHead (head_in beginning)) }
     ensures within { IfOk result (λ beginning. 36 + vec_len beginning.settings ≤ len) }
-    ensures found { IfOk result (λ beginning. IsTrue (D.Disk.is_clean disk.new) → (rest : List ℕ) × (D.Disk.seen disk.old ≡ head_bytes (head_in beginning) ++ rest)) }
+    ensures found { IfOk result (λ beginning. IsTrue (D.Disk.is_clean disk.new) → (rest : List ℕ) × IsOpened (head_bytes (head_in beginning) ++ rest) (D.Disk.seen disk.old)) }
 
     // No file that is part of one with a head is called damaged, and none that has a whole head is taken for one that has none.
     ensures damaged { IfErr result (λ e. e ≡ SegmentError.Damaged → IsTrue (D.Disk.is_clean disk.new)
-        → (head : Head) (rest tail : List ℕ) → IsHead head → D.Disk.seen disk.old ++ tail ≡ head_bytes head ++ rest → ⊥) }
+        → (head : Head) (rest tail : List ℕ) → IsHead head → IsOpened (head_bytes head ++ rest) (D.Disk.seen disk.old ++ tail) → ⊥) }
     ensures not_begun { IfErr result (λ e. e ≡ SegmentError.NotBegun → IsTrue (D.Disk.is_clean disk.new)
-        → (head : Head) (rest : List ℕ) → IsHead head → D.Disk.seen disk.old ≡ head_bytes head ++ rest → ⊥) }
+        → (head : Head) (rest : List ℕ) → IsHead head → IsOpened (head_bytes head ++ rest) (D.Disk.seen disk.old) → ⊥) }
     ensures unbegun { IfErr result (λ e. e ≡ SegmentError.NotBegun → IsTrue (D.Disk.is_clean disk.new) → IsUnbegun (D.Disk.seen disk.old)) }
     ensures cut_short { IfErr result (λ e. e ≡ SegmentError.CutShort → IsTrue (D.Disk.is_clean disk.new) → IsCutHead (D.Disk.seen disk.old)) }
 
@@ -66,12 +66,12 @@ pub(crate) fn read_beginning<D: Disk>(
 fn read_head<D: Disk>(alloc: Global, disk: &mut D, len: usize) -> Result<Beginning, SegmentError>
     requires usable { IsTrue (D.Disk.is_usable disk.old) }
     requires len { IsTrue (D.Disk.is_clean disk.old) → len ≡ length (D.Disk.seen disk.old) }
-    requires marked { IsTrue (D.Disk.is_clean disk.old) → D.Disk.seen disk.old ≡ 70 ∷ (mark ++ drop 8 (D.Disk.seen disk.old)) }
+    requires marked { IsTrue (D.Disk.is_clean disk.old) → IsOpened (mark ++ drop 8 (D.Disk.seen disk.old)) (D.Disk.seen disk.old) }
     ensures bears { IfOk result (λ beginning. (beginning.own ≡ head_digest (head_in beginning)) × IsHead (head_in beginning)) }
     ensures within { IfOk result (λ beginning. 36 + vec_len beginning.settings ≤ len) }
-    ensures found { IfOk result (λ beginning. IsTrue (D.Disk.is_clean disk.new) → (rest : List ℕ) × (D.Disk.seen disk.old ≡ head_bytes (head_in beginning) ++ rest)) }
+    ensures found { IfOk result (λ beginning. IsTrue (D.Disk.is_clean disk.new) → (rest : List ℕ) × IsOpened (head_bytes (head_in beginning) ++ rest) (D.Disk.seen disk.old)) }
     ensures damaged { IfErr result (λ e. e ≡ SegmentError.Damaged → IsTrue (D.Disk.is_clean disk.new)
-        → (head : Head) (rest tail : List ℕ) → IsHead head → D.Disk.seen disk.old ++ tail ≡ head_bytes head ++ rest → ⊥) }
+        → (head : Head) (rest tail : List ℕ) → IsHead head → IsOpened (head_bytes head ++ rest) (D.Disk.seen disk.old ++ tail) → ⊥) }
     ensures cut_short { IfErr result (λ e. e ≡ SegmentError.CutShort → IsTrue (D.Disk.is_clean disk.new) → IsCutHead (D.Disk.seen disk.old)) }
     ensures kind { IfErr result (λ e. (e ≢ SegmentError.NotASegment) × (e ≢ SegmentError.NotBegun) × (e ≢ SegmentError.Begun)) }
     ensures clean { IsTrue (D.Disk.is_clean disk.new) → IsTrue (D.Disk.is_clean disk.old) }
@@ -110,7 +110,7 @@ fn read_head<D: Disk>(alloc: Global, disk: &mut D, len: usize) -> Result<Beginni
 pub(crate) fn check_mark<D: Disk>(disk: &mut D, len: usize) -> Result<(), SegmentError>
     requires usable { IsTrue (D.Disk.is_usable disk.old) }
     requires len { IsTrue (D.Disk.is_clean disk.old) → len ≡ length (D.Disk.seen disk.old) }
-    ensures begun { OnOk result (IsTrue (D.Disk.is_clean disk.new) → (8 < length (D.Disk.seen disk.old)) × (D.Disk.seen disk.old ≡ 70 ∷ (mark ++ drop 8 (D.Disk.seen disk.old)))) }
+    ensures begun { OnOk result (IsTrue (D.Disk.is_clean disk.new) → (8 < length (D.Disk.seen disk.old)) × IsOpened (mark ++ drop 8 (D.Disk.seen disk.old)) (D.Disk.seen disk.old)) }
     ensures foreign { IfErr result (λ e. e ≡ SegmentError.NotASegment → IsTrue (D.Disk.is_clean disk.new) → IsForeign (D.Disk.seen disk.old)) }
     ensures not_begun { IfErr result (λ e. e ≡ SegmentError.NotBegun → IsTrue (D.Disk.is_clean disk.new) → IsUnbegun (D.Disk.seen disk.old)) }
     ensures kind { IfErr result (λ e. (e ≢ SegmentError.Damaged) × (e ≢ SegmentError.Begun) × (e ≢ SegmentError.CutShort)) }
@@ -129,7 +129,7 @@ pub(crate) fn check_mark<D: Disk>(disk: &mut D, len: usize) -> Result<(), Segmen
     if !is_mark(&found) {
         return Err(SegmentError::NotASegment);
     }
-    if gate[0] != b'F' {
+    if gate[0] == 0 {
         return Err(SegmentError::NotBegun);
     }
     Ok(())

@@ -9,14 +9,14 @@ use std::alloc::{AllocError, Global};
 /// What stands before the content of a block.
 #[derive(Clone, Copy)]
 pub(crate) struct Opening {
-    /// 1 if it is open.
+    /// 0 if it is shut.
     pub gate: u8,
     /// The length of the content, in bytes.
     pub size: usize,
     pub chain: u64,
 }
 
-/// All of a head but its digest.
+/// What a head says, without its gate and its digest.
 pub(crate) fn text_of_head(
     alloc: Global,
     number: u64,
@@ -26,8 +26,8 @@ pub(crate) fn text_of_head(
     requires { length settings.now ≤ 4096 }
     ensures { IfOk result (λ bytes. bytes.items ≡ head_text (record { number = number; before = before; settings = settings.now })) }
 {
-    let mut bytes = Vec::with_capacity(alloc, settings.len() + 37)?;
-    bytes.extend_from_slice(b"FILGJRN2")?;
+    let mut bytes = Vec::with_capacity(alloc, settings.len() + 27)?;
+    bytes.extend_from_slice(b"ILGJRN2")?;
     bytes.extend_from_slice(&number.to_be_bytes())?;
     bytes.extend_from_slice(&before.to_be_bytes())?;
     bytes.extend_from_slice(&(settings.len() as u32).to_be_bytes())?;

@@ -1,5 +1,5 @@
 //! What holds of the definitions alone: each law is the contract of a function that does nothing.
-ghost use Rattle.sb_durable.specs.Chain.{CrashesEndShut, CutFilesStand, OneEndOneSegment, OneFileOneSegment, WhatIsReadIsBound};
+ghost use Rattle.sb_durable.specs.Chain.{CrashesEndShut, CutFilesStand, FlipsShutNoGate, OneEndOneSegment, OneFileOneSegment, WhatIsReadIsBound};
 ghost use Rattle.sb_durable.specs.Row.{BegunBehind, NewerAreARow, OneEndOneRow, OneFolderOneRow, OnlyTheNewestIsWritten};
 
 /// One digest at the end binds all of a segment.
@@ -47,7 +47,12 @@ pub fn begun_behind()
     ensures { BegunBehind }
 {}
 
-/// What a crash leaves of an append has no open gate behind its last block.
+/// No flipped bit shuts a gate that was written: a block's, or a file's.
+pub fn flips_shut_no_gate()
+    ensures { FlipsShutNoGate }
+{}
+
+/// What a crash leaves of an append has a shut gate behind its last block.
 pub fn crashes_end_shut()
     ensures { CrashesEndShut }
 {}

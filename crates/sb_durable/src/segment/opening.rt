@@ -79,6 +79,8 @@ impl<D: Disk> Segment<D> {
         ensures same { (head_of self.new ≡ head_of self.old) × (end_of self.new ≡ end_of self.old) }
         ensures knows { (contents : List (List ℕ)) → Knows D.Disk.seen self.old contents → Knows D.Disk.seen self.new contents }
         ensures has { (contents : List (List ℕ)) → HasAll D.Disk.seen D.Disk.may_leave self.old contents → HasAll D.Disk.seen D.Disk.may_leave self.new contents }
+        ensures seen { (D.Disk.seen (device_of self.new) ≡ D.Disk.seen (device_of self.old))
+            × ((file : List ℕ) → D.Disk.may_leave (device_of self.new) file → D.Disk.may_leave (device_of self.old) file) }
         ensures spent { IsSpent self.old → IsErr result }
     {
         if self.is_spent || !self.device.may_be_used() {
@@ -116,6 +118,8 @@ impl<D: Disk> Segment<D> {
         ensures same { (head_of self.new ≡ head_of self.old) × (end_of self.new ≡ end_of self.old) }
         ensures knows { (contents : List (List ℕ)) → Knows D.Disk.seen self.old contents → Knows D.Disk.seen self.new contents }
         ensures has { (contents : List (List ℕ)) → HasAll D.Disk.seen D.Disk.may_leave self.old contents → HasAll D.Disk.seen D.Disk.may_leave self.new contents }
+        ensures seen { (D.Disk.seen (device_of self.new) ≡ D.Disk.seen (device_of self.old))
+            × ((file : List ℕ) → D.Disk.may_leave (device_of self.new) file → D.Disk.may_leave (device_of self.old) file) }
         ensures spent { IsSpent self.old → IsErr result }
     {
         if self.is_spent || !self.device.may_be_used() {
@@ -127,7 +131,7 @@ impl<D: Disk> Segment<D> {
         }
         let mut gate = [0];
         self.device.read_at(self.end.at, &mut gate)?;
-        Ok(gate[0] == 1)
+        Ok(gate[0] != 0)
     }
 
     /// The place of the first block.

@@ -1,7 +1,7 @@
 //! The end of a file, where a crash may have left a part of a block: it is cut off.
-ghost use Rattle.std.specs.Prelude.{◌≡◌, ◌≢◌, ◌+◌, ◌-◌, ◌<◌, ◌≤◌, List, ℕ, length, slice_index, OnOk, IsTrue};
+ghost use Rattle.std.specs.Prelude.{◌≡◌, ◌+◌, ◌-◌, ◌<◌, ◌≤◌, List, ℕ, slice_index, OnOk, IsTrue};
 ghost use Rattle.sqlite_disk.specs.Disk.{Only};
-ghost use Rattle.sb_durable.specs.Head.{Head, Stands};
+ghost use Rattle.sb_durable.specs.Head.{Head, IsLeft, Stands};
 ghost use Rattle.sb_durable.specs.Segment.{IsAtRest};
 ghost use Rattle.sb_durable.specs.SegmentEnds.{EndsAt};
 
@@ -16,10 +16,14 @@ pub(crate) fn leave_gate<D: Disk>(disk: &mut D, end: usize, len: usize) -> io::R
         → EndsAt head contents end len (D.Disk.seen disk.old) → IsAtRest head contents (D.Disk.seen disk.new)) }
     ensures any_moment { IsTrue (D.Disk.is_clean disk.new) → Only (D.Disk.seen disk.old) (D.Disk.may_leave disk.old) → (head : Head) (contents : List (List ℕ))
         → EndsAt head contents end len (D.Disk.seen disk.old) → (file : List ℕ) → D.Disk.may_leave disk.new file → Stands head contents file }
+
+    // Where a crash left the file, a shut gate stays behind the last block.
+    ensures left { IsTrue (D.Disk.is_clean disk.new) → Only (D.Disk.seen disk.old) (D.Disk.may_leave disk.old) → (head : Head) (contents : List (List ℕ))
+        → EndsAt head contents end len (D.Disk.seen disk.old) → IsLeft head contents (D.Disk.seen disk.old) → (file : List ℕ) → D.Disk.may_leave disk.new file → IsLeft head contents file }
     ensures clean { IsTrue (D.Disk.is_clean disk.new) → IsTrue (D.Disk.is_clean disk.old) }
     ensures usable { OnOk result (IsTrue (D.Disk.is_usable disk.new)) }
 {
-    if len - end <= 1 {
+    if len == end {
         return disk.write_at(end, &[0]);
     }
     shut_gate(disk, end)?;
@@ -30,18 +34,19 @@ pub(crate) fn leave_gate<D: Disk>(disk: &mut D, end: usize, len: usize) -> io::R
 /// torn write might open it.
 fn shut_gate<D: Disk>(disk: &mut D, end: usize) -> io::Result<()>
     requires { IsTrue (D.Disk.is_usable disk.old) }
-    ensures shut { OnOk result (IsTrue (D.Disk.is_clean disk.new) → slice_index (D.Disk.seen disk.new) end ≢ 1) }
-    ensures stays { OnOk result (IsTrue (D.Disk.is_clean disk.new) → (head : Head) (contents : List (List ℕ)) (len : ℕ) → 1 < len - end
+    ensures shut { OnOk result (IsTrue (D.Disk.is_clean disk.new) → slice_index (D.Disk.seen disk.new) end ≡ 0) }
+    ensures stays { OnOk result (IsTrue (D.Disk.is_clean disk.new) → (head : Head) (contents : List (List ℕ)) (len : ℕ)
         → EndsAt head contents end len (D.Disk.seen disk.old) → EndsAt head contents end len (D.Disk.seen disk.new)) }
     ensures durable { OnOk result (Only (D.Disk.seen disk.old) (D.Disk.may_leave disk.old) → Only (D.Disk.seen disk.new) (D.Disk.may_leave disk.new)) }
     ensures any_moment { IsTrue (D.Disk.is_clean disk.new) → Only (D.Disk.seen disk.old) (D.Disk.may_leave disk.old) → (head : Head) (contents : List (List ℕ)) (len : ℕ)
-        → 1 < len - end → EndsAt head contents end len (D.Disk.seen disk.old) → (file : List ℕ) → D.Disk.may_leave disk.new file → Stands head contents file }
+        → EndsAt head contents end len (D.Disk.seen disk.old) → (file : List ℕ) → D.Disk.may_leave disk.new file → Stands head contents file }
+    ensures left { IsTrue (D.Disk.is_clean disk.new) → slice_index (D.Disk.seen disk.old) end ≡ 0 → (file : List ℕ) → D.Disk.may_leave disk.new file → D.Disk.may_leave disk.old file }
     ensures clean { IsTrue (D.Disk.is_clean disk.new) → IsTrue (D.Disk.is_clean disk.old) }
     ensures usable { OnOk result (IsTrue (D.Disk.is_usable disk.new)) }
 {
     let mut gate = [0];
     disk.read_at(end, &mut gate)?;
-    if gate[0] != 1 {
+    if gate[0] == 0 {
         return Ok(());
     }
     disk.write_at(end, &[0])?;

@@ -1,7 +1,7 @@
 //! Segments in a row: each goes on where the one before it ends.
 ghost use Rattle.std.specs.Prelude.{◌≡◌, ◌⊎◌, ◌+◌, ◌≤◌, [], List, ℕ, length, IfOk, IfErr, OnOk, IsTrue};
 ghost use Rattle.sqlite_disk.specs.Disk.{Only};
-ghost use Rattle.sb_durable.specs.Head.{IsUnbegun, Stands};
+ghost use Rattle.sb_durable.specs.Head.{IsUnbegun, IsLeft};
 ghost use Rattle.sb_durable.specs.Row.{IsNext, next_head};
 ghost use Rattle.sb_durable.specs.RowFaults.{Tells};
 ghost use Rattle.sb_durable.specs.Segment.{HasAll, IsBehind, device_of, head_of, end_of};
@@ -56,9 +56,9 @@ impl<D: Disk> Segment<D> {
 
         // A crash at any moment of the call leaves a file that hasn't begun, or the whole head.
         ensures any_moment { IfOk result (λ segment. IsTrue (D.Disk.is_clean (device_of segment)) → Only (D.Disk.seen device) (D.Disk.may_leave device) → IsUnbegun (D.Disk.seen device)
-            → (file : List ℕ) → D.Disk.may_leave (device_of segment) file → IsUnbegun file ⊎ Stands (next_head (head_of self.now) (end_of self.now).chain) [] file) }
+            → (file : List ℕ) → D.Disk.may_leave (device_of segment) file → IsUnbegun file ⊎ IsLeft (next_head (head_of self.now) (end_of self.now).chain) [] file) }
         ensures any_moment_err { IfErr result (λ e. IsTrue (D.Disk.is_clean e.1) → Only (D.Disk.seen device) (D.Disk.may_leave device) → IsUnbegun (D.Disk.seen device)
-            → (file : List ℕ) → D.Disk.may_leave e.1 file → IsUnbegun file ⊎ Stands (next_head (head_of self.now) (end_of self.now).chain) [] file) }
+            → (file : List ℕ) → D.Disk.may_leave e.1 file → IsUnbegun file ⊎ IsLeft (next_head (head_of self.now) (end_of self.now).chain) [] file) }
 
         // A file that has begun, or that is of another program, is left as it is.
         ensures kept { IfErr result (λ e. IsTrue (D.Disk.is_clean e.1) → (IsUnbegun (D.Disk.seen device) → ⊥)

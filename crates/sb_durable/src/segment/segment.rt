@@ -1,10 +1,10 @@
 //! A segment: a head and blocks. A block counts if its gate is open, and it is whole; a shut gate stands behind the last,
 //! on the disk before anything is written behind it. The digest of a block is taken under the one before.
-ghost use Rattle.std.specs.Prelude.{◌≡◌, ◌⊎◌, ◌^◌, ◌≤◌, ◌++◌, ◌↔◌, [], ◌∷◌, List, ℕ, IfErr, OnOk, OnErr, IsErr, IsTrue};
+ghost use Rattle.std.specs.Prelude.{◌≡◌, ◌⊎◌, ◌^◌, ◌≤◌, ◌++◌, ◌↔◌, [], ◌∷◌, List, ℕ, slice_index, IfErr, OnOk, OnErr, IsErr, IsTrue};
 ghost use Rattle.sqlite_disk.specs.Digest.{digest};
 ghost use Rattle.sqlite_disk.specs.Disk.{Only};
-ghost use Rattle.sb_durable.specs.SegmentBlocks.{IsContent};
-ghost use Rattle.sb_durable.specs.Head.{IsBeforeOrAfter, Stands};
+ghost use Rattle.sb_durable.specs.SegmentBlocks.{IsContent, open_gate};
+ghost use Rattle.sb_durable.specs.Head.{IsBeforeOrAfter, IsLeft, Stands};
 ghost use Rattle.sb_durable.specs.Segment.{HasAll, Knows, IsSettled, IsSpent, device_of, head_of, end_of};
 
 use crate::segment::beginning::Beginning;
@@ -13,6 +13,9 @@ use crate::segment::repair::leave_gate;
 use crate::segment::{Place, SegmentError};
 use sqlite_disk::{Disk, digest_of};
 use std::alloc::Global;
+
+/// An open gate is written as this. Any byte but 0 is one, so no flipped bit shuts it.
+const OPEN: u8 = 255;
 
 /// No file gets as long as this, in bytes.
 const MAX_LEN: usize = 1 << 62;
@@ -40,6 +43,10 @@ impl<D: Disk> Segment<D> {
         ensures end { OnOk result ((end_of self.new).chain ≡ digest (end_of self.old).chain content.now) }
         ensures head { head_of self.new ≡ head_of self.old }
 
+        // No flipped bit shuts the gate that was opened.
+        ensures gate { OnOk result ((contents : List (List ℕ)) → HasAll D.Disk.seen D.Disk.may_leave self.old contents
+            → slice_index (D.Disk.seen (device_of self.new)) (end_of self.old).at ≡ open_gate) }
+
         // A crash at any moment of the call leaves what was there, or that and the whole content.
         ensures any_moment { (contents : List (List ℕ)) → HasAll D.Disk.seen D.Disk.may_leave self.old contents
             → (file : List ℕ) → D.Disk.may_leave (device_of self.new) file → IsBeforeOrAfter (head_of self.old) contents content.now file }
@@ -66,7 +73,7 @@ impl<D: Disk> Segment<D> {
         self.is_spent = true;
         self.device.write_at(self.end.at + 1, &behind)?;
         self.device.sync()?;
-        self.device.write_at(self.end.at, &[1])?;
+        self.device.write_at(self.end.at, &[OPEN])?;
         self.device.sync()?;
         self.end = Place {
             at: self.end.at + behind.len(),
@@ -87,6 +94,11 @@ impl<D: Disk> Segment<D> {
         ensures any_moment { IsTrue (D.Disk.is_clean (device_of self.new)) → Only (D.Disk.seen (device_of self.old)) (D.Disk.may_leave (device_of self.old))
             → (contents : List (List ℕ)) → Knows D.Disk.seen self.old contents → (file : List ℕ) → D.Disk.may_leave (device_of self.new) file
             → Stands (head_of self.old) contents file }
+
+        // Where a crash left the file, a shut gate stays behind the last block.
+        ensures left { IsTrue (D.Disk.is_clean (device_of self.new)) → Only (D.Disk.seen (device_of self.old)) (D.Disk.may_leave (device_of self.old))
+            → (contents : List (List ℕ)) → Knows D.Disk.seen self.old contents → IsLeft (head_of self.old) contents (D.Disk.seen (device_of self.old))
+            → (file : List ℕ) → D.Disk.may_leave (device_of self.new) file → IsLeft (head_of self.old) contents file }
         ensures damaged { IfErr result (λ e. e ≡ SegmentError.Damaged → IsTrue (D.Disk.is_clean (device_of self.new))
             → (contents : List (List ℕ)) → Knows D.Disk.seen self.old contents → ⊥) }
 

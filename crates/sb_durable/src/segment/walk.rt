@@ -78,7 +78,7 @@ pub(crate) fn block_at<D: Disk>(
     disk.read_at(place.at, &mut opening)?;
     let opening = opening_of(opening);
     let behind = len - place.at - OPENING;
-    if opening.gate != 1 {
+    if opening.gate == 0 {
         if behind > MAX_CONTENT + 1 {
             return Err(SegmentError::Damaged);
         }

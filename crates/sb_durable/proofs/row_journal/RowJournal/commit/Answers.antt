@@ -2,7 +2,7 @@ use Rattle.std.proofs.Common.{◌≡◌, ◌++◌, ◌∷◌, [], List, ap, sym,
 use Rattle.std.proofs.lemmas.List.{append-nil, nil_from_length}
 use Rattle.sb_durable.specs.Records.{Entry}
 use Rattle.sb_durable.specs.RowJournal.{settings_of}
-use Rattle.sb_durable.specs.RowJournals.{filed}
+use Rattle.sb_durable.specs.RowReaders.{filed}
 use Rattle.sb_durable.specs.Segment.{head_of}
 use Rattle.sb_durable.proofs.Batches.{none_waits, all_more}
 use Rattle.sb_durable.proofs.Rows.{only_the_newest_is_written}

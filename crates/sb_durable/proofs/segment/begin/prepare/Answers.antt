@@ -1,6 +1,6 @@
-use Rattle.std.proofs.Common.{[], append-nil, ◌≤◌, ◌<◌, arith, sym, ◌∙◌, ap, subst, length}
+use Rattle.std.proofs.Common.{[], ◌++◌, append-nil, ◌≤◌, ◌<◌, arith, sym, ◌∙◌, ap, subst, length}
 use Rattle.sqlite_disk.specs.Disk.{Cut}
-use Rattle.sb_durable.specs.Head.{IsReady}
+use Rattle.sb_durable.specs.Head.{IsReady, IsOpened, head_bytes}
 use Rattle.sb_durable.proofs.Begun.{short_ready, left_cut, cut_ready, shut_there}
 use Rattle.sb_durable.proofs.segment.begin.prepare.Goals as goal
 
@@ -41,4 +41,4 @@ returns-clause-ready g c clean =
 
 pub returns-in-Err-clause-damaged : goal.returns-in-Err-clause-damaged
 returns-in-Err-clause-damaged g c is clean other contents stands =
-    c.in-Err.ensures.damaged is clean other stands.rest [] stands.fits (append-nil (g.D.Disk.seen c.len.new.self) ∙ c.len.ensures.seen ∙ stands.whole)
+    c.in-Err.ensures.damaged is clean other stands.rest [] stands.fits (subst (λ f. IsOpened (head_bytes other ++ stands.rest) f) (sym (append-nil (g.D.Disk.seen c.len.new.self) ∙ c.len.ensures.seen)) stands.begins)

@@ -4,6 +4,11 @@ use Rattle.sqlite_disk.specs.Disk.{Torn}
 use Rattle.sb_durable.proofs.Begun.{left_head, tail_some, staged_head, left_head_gate, head_opened}
 use Rattle.sb_durable.proofs.segment.begin.write_head.Goals as goal
 
+pub returns-in_err-write_at-clause-any_moment : goal.returns-in_err-write_at-clause-any_moment
+returns-in_err-write_at-clause-any_moment g c rest are ready only file left =
+    let from = c.write_at.ensures.crash file left in
+    inl (left_head _ c.args.bytes.now rest ready are _ file (subst (λ f. Torn 8 (length (take (length c.args.bytes.now - 8) (drop 8 c.args.bytes.now))) f file) (only from.0 from.1) from.2))
+
 pub returns-in_err-sync-clause-any_moment : goal.returns-in_err-sync-clause-any_moment
 returns-in_err-sync-clause-any_moment g c rest are ready only file left =
     let from = c.write_at.ensures.crash file (c.sync.ensures.crash file left) in

@@ -1,4 +1,4 @@
-use Rattle.std.proofs.Common.{inl, arith, refl, ◌∙◌}
+use Rattle.std.proofs.Common.{◌≡◌, List, ℕ, inl, ap, arith, refl, subst, ◌∙◌, get_or}
 use Rattle.sb_durable.proofs.SegmentCrash.{left_now, left_behind, left_gate, has_more, long}
 use Rattle.sb_durable.proofs.segment.segment.Segment.append.Goals as goal
 
@@ -39,3 +39,8 @@ returns-clause-any_moment g c contents has file left =
 pub returns-clause-ok : goal.returns-clause-ok
 returns-clause-ok g c contents has =
     has_more _ _ _ contents has _ _ _ c.requires c.digest_of-own.ensures.value (c.deref.ensures.value ∙ c.in_ok-behind.ensures) _ _ _ _ _ (omega arith) refl c.write_at.ensures.others c.in_ok-write_at.ensures.written c.sync.ensures.seen c.write_at-2.ensures.others (c.in_ok-write_at-2.ensures.written (omega arith)) c.sync-2.ensures.seen c.in_ok-sync-2.ensures.durable
+
+pub returns-clause-gate : goal.returns-clause-gate
+returns-clause-gate g c contents has =
+    ap (λ (l : List ℕ). get_or l c.args.self.now.end.at 0) c.sync-2.ensures.seen
+    ∙ subst (λ n. get_or (g.D.Disk.seen c.write_at-2.new.self) n 0 ≡ 255) (omega arith) ((c.in_ok-write_at-2.ensures.written (omega arith)).each 0 (omega arith))

@@ -24,14 +24,14 @@ returns-then-next-self-clause-damaged g c is clean front back knows here =
     let found = subst (λ f. Finds c.args.place.chain (drop c.args.place.at f) c.block_at.new.content.items c.in-Ok-Some.field-0) c.len.ensures.seen (c.in-Ok-Some.ensures.found clean) in
     let begins = subst (λ o. Finds c.args.place.chain (drop c.args.place.at (g.D.Disk.seen c.args.self.now.device)) c.block_at.new.content.items o) c.in-Ok-Some.field-0-is found in
     let bears = subst (λ o. IfSome o (λ next. Bears c.args.place c.block_at.new.content.items next)) c.in-Ok-Some.field-0-is c.in-Ok-Some.ensures.bears in
-    block_within _ _ front c.args.place c.args.self.now.end here c.block_at.new.content.items begins.0 c.in-Ok-Some.next bears begins.1 back knows.stands knows.end c.if-next-self.true
+    block_within _ _ front c.args.place c.args.self.now.end here c.block_at.new.content.items begins.1 begins.0 begins.2 c.in-Ok-Some.next bears begins.3 back knows.stands knows.end c.if-next-self.true
 
 pub returns-else-next-self-clause-found : goal.returns-else-next-self-clause-found
 returns-else-next-self-clause-found g c clean front back knows here =
     let found = subst (λ f. Finds c.args.place.chain (drop c.args.place.at f) c.block_at.new.content.items c.in-Ok-Some.field-0) c.len.ensures.seen (c.in-Ok-Some.ensures.found clean) in
     let begins = subst (λ o. Finds c.args.place.chain (drop c.args.place.at (g.D.Disk.seen c.args.self.now.device)) c.block_at.new.content.items o) c.in-Ok-Some.field-0-is found in
     let bears = subst (λ o. IfSome o (λ next. Bears c.args.place c.block_at.new.content.items next)) c.in-Ok-Some.field-0-is c.in-Ok-Some.ensures.bears in
-    block_reads _ _ front c.args.place c.args.self.now.end here c.block_at.new.content.items begins.0 c.in-Ok-Some.next bears begins.1 back knows.stands knows.end
+    block_reads _ _ front c.args.place c.args.self.now.end here c.block_at.new.content.items begins.1 begins.0 begins.2 c.in-Ok-Some.next bears begins.3 back knows.stands knows.end
 
 pub returns-in-Ok-None-clause-damaged : goal.returns-in-Ok-None-clause-damaged
 returns-in-Ok-None-clause-damaged g c is clean front back knows here =
