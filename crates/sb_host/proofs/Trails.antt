@@ -53,7 +53,7 @@ volume_laid volumes at v n within = by (cases_eq at n)
 
 -- ---- one cell more
 
-tenant_of : Tenant → Option Tenant → Tenant
+abbrev tenant_of : Tenant → Option Tenant → Tenant
 tenant_of d None = d
 tenant_of d (Some t) = t
 

@@ -9,15 +9,17 @@ use Rattle.sb_host.proofs.finish.put.Goals as goal
 pub put_all-requires : goal.put_all-requires
 put_all-requires g c = (
   c.requires.trails.1,
-  λ k d below.
-      let t : Tenant = get_or c.into_tenants.result.items k d in
-      let h = c.into_tenants.ensures.hosted k d below in
-      let same = c.into_cell.ensures.same in
-      let hosted = sym (c.into_cell.ensures.hosts t.id) ∙ sym (ap (λ (x : Cell). hosts x t.id) same) ∙ h.0 in
-      let few : t.id < g.N.Naming.tenants = ltb-true t.id g.N.Naming.tenants (and_parts (t.id % g.N.Naming.cells == g.row.F) (nat_lt t.id g.N.Naming.tenants) hosted).1 in
-      let long = c.requires.trails.0 in
-      (omega (arith, few, long), h.1 ∙ ap (λ (x : Cell). x.bound) same ∙ c.into_cell.ensures.of.2),
-  c.requires.trails.3 ∙ sym c.requires.trails.0,
+  (
+    λ k d below.
+        let t : Tenant = get_or c.into_tenants.result.items k d in
+        let h = c.into_tenants.ensures.hosted k d below in
+        let same = c.into_cell.ensures.same in
+        let hosted = sym (c.into_cell.ensures.hosts t.id) ∙ sym (ap (λ (x : Cell). hosts x t.id) same) ∙ h.0 in
+        let few : t.id < g.N.Naming.tenants = ltb-true t.id g.N.Naming.tenants (and_parts (t.id % g.N.Naming.cells == g.row.F) (nat_lt t.id g.N.Naming.tenants) hosted).1 in
+        let long = c.requires.trails.0 in
+        (omega (arith, few, long), h.1 ∙ ap (λ (x : Cell). x.bound) same ∙ c.into_cell.ensures.of.2),
+    c.requires.trails.3 ∙ sym c.requires.trails.0,
+  ),
 )
 
 -- a cell more
