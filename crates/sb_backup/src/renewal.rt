@@ -4,9 +4,8 @@ ghost use Rattle.sb_backup.specs.Renewals.{IsDraftOf, Renewed};
 ghost use Rattle.sb_host.specs.Renewal.{GivesBack};
 
 use sb_dump::{DumpError, Script, draft_of, made_by};
-use sb_host::{NotRenewed, Reading, RenewError, Renewal, Renewing, Stub};
+use sb_host::{NotRenewed, Reading, RenewError, Renewal, Renewing, Stub, TenantId};
 use sb_tenant::Tenant;
-use sb_value::TenantId;
 use std::alloc::Global;
 use std::sync::Wait;
 
