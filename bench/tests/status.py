@@ -5,7 +5,7 @@
 
 PROGRAM is crates/starhost/out/starhost where no word is given. Told in one line each: the pages of a small tenant and the
 samples, byte by byte as bench/tests/status_pages has them (numbers that vary are written as N); what Prometheus' `promtool` says
-of the samples, where it is installed; what is counted; how old a session's last line is, and the server; slow lines; a page
+of the samples, where it is installed; what is counted; a ninth connection of a tenant; how old a session's last line is, and the server; slow lines; a page
 while a step runs; a session that is ended; a tenant that is renewed, and one that renews itself; requests of other sites, and
 those that name another machine; hostile requests, and silent connections while a client of the server goes on; half requests
 beside which others are answered; whom keys let in. The first thing that isn't as it is to be ends this with status 1; what has
@@ -275,6 +275,36 @@ def counts(program):
     expect("a slow line in the page", (b"<script" in page, b"&lt;script&gt;&#39; = &#39;&quot;&amp;&#39;" in page), (False, True))
     server.stop()
     print(f"counts: {len(wanted)} samples are what was done")
+
+
+def ninth(program):
+    """A ninth connection of a tenant: that eight are open is in the log, and it is counted by tenant, behind a renewal, too."""
+    server = Server(program)
+    clients = [server.client(f"4 {session}") for session in range(8)]
+    expect("eight sessions", [reply for _, _, reply in clients], ["ok\n"] * 8)
+    expect("another tenant's session", server.raw_ask("5 0"), "ok\n")
+    full = "turned away: tenant 4, session 7: AlreadyOpen, as all eight sessions are open"
+    refused = 'filgwesha_tenant_connections_turned_away_total{tenant="%d"}'
+    for times in (1, 2):
+        expect("a ninth connection", server.raw_ask("4 7"), "no 45 AlreadyOpen\n")
+        until("it is told", lambda: server.told().count(full) == times)
+        soon("it is counted", lambda: server.sample(refused % 4), times)
+        expect("a renewal", server.get("/tenants/4/renew", method="POST")[0], 202)
+        until("its next volume", lambda: server.sample('filgwesha_tenant_volume{tenant="4"}') == times)
+    stream, file, _ = clients.pop()
+    stream.close()
+    file.close()
+    until("its session is closed", lambda: "closed: tenant 4, session 7" in server.told())
+    expect("a session that is open", server.raw_ask("4 0"), "no 45 AlreadyOpen\n")
+    until("that is told", lambda: "turned away: tenant 4, session 0: AlreadyOpen\n" in server.told())
+    expect("one that is free", server.raw_ask("4 7"), "ok\n")
+    soon("those of tenant 4", lambda: server.sample(refused % 4), 3)
+    expect("those of tenant 5", server.sample(refused % 5), 0)
+    for stream, file, _ in clients:
+        stream.close()
+        file.close()
+    server.stop()
+    print("a ninth connection: the log tells that eight sessions are open, and a sample counts it by tenant")
 
 
 def ages(program):
@@ -660,6 +690,7 @@ def main():
     try:
         pages(asked.program, asked.write, asked.shots)
         counts(asked.program)
+        ninth(asked.program)
         ages(asked.program)
         trial(slow, asked.program)
         ends(asked.program)

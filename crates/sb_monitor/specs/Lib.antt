@@ -7,4 +7,5 @@ pub mod Pages
 pub mod PageAnswers
 pub mod RenewalBoards
 pub mod Rooms
+pub mod SessionBoards
 pub mod TenantRenewals

@@ -1,5 +1,6 @@
 //! What an operator reads on standard error.
 
+use crate::session_board::SessionBoard;
 use jiff::Timestamp;
 use libc::net as system;
 use libc::types::pollfd;
@@ -30,11 +31,26 @@ pub struct EventLog<'r, T> {
     /// How many slow lines were left out since.
     untold: AtomicU64,
     began: Option<Instant>,
+    /// Where the sessions of its clients are counted.
+    session_board: Option<&'r SessionBoard>,
 }
 
 impl<'r, T: Eprint + Clock> EventLog<'r, T> {
     /// A log of what is as severe as this.
     pub fn new(rt: &'r T, least: Severity) -> EventLog<'r, T> {
+        EventLog::of(rt, least, None)
+    }
+
+    /// The log of a server whose clients' sessions are counted here.
+    pub fn of_server(
+        rt: &'r T,
+        least: Severity,
+        session_board: &'r SessionBoard,
+    ) -> EventLog<'r, T> {
+        EventLog::of(rt, least, Some(session_board))
+    }
+
+    fn of(rt: &'r T, least: Severity, session_board: Option<&'r SessionBoard>) -> EventLog<'r, T> {
         EventLog {
             rt,
             least,
@@ -42,12 +58,26 @@ impl<'r, T: Eprint + Clock> EventLog<'r, T> {
             slow: AtomicU64::new(0),
             untold: AtomicU64::new(0),
             began: Instant::now(rt).ok(),
+            session_board,
         }
     }
 
     /// The system.
     pub(crate) fn rt(&self) -> &'r T {
         self.rt
+    }
+
+    /// Counts what happened to a client, and returns what its line says besides.
+    fn count(&self, event: &ConnectionEvent) -> &'static str {
+        let Some(session_board) = self.session_board else {
+            return "";
+        };
+        session_board.note(event);
+        if session_board.lacks_sessions(event) {
+            ", as all eight sessions are open"
+        } else {
+            ""
+        }
     }
 
     /// True if no slow line was logged in this second yet.
@@ -93,7 +123,11 @@ impl<'r, T: Eprint + Clock> Watch for EventLog<'r, T> {
     }
 
     fn on_client_event(&self, port: u16, event: ConnectionEvent) {
-        self.write(severity_of(&event), &format_args!("port {port}: {event}"));
+        let remark = self.count(&event);
+        self.write(
+            severity_of(&event),
+            &format_args!("port {port}: {event}{remark}"),
+        );
     }
 
     fn is_turn_over(&self) -> bool {

@@ -16,6 +16,7 @@ use crate::page_access::is_let_in;
 use crate::renewal_board::RenewalBoard;
 use crate::sender::Sender;
 use crate::server_control::{ServerControl, ServerControls};
+use crate::session_board::SessionBoard;
 use crate::target::{Target, target_of};
 use crate::tenant_script::noted_in;
 use sb_backup::{DumpError, NotedScript, ScriptNotes, text_of};
@@ -56,6 +57,8 @@ pub struct Pages<'k, H, A, T, E = ServerControls> {
     pub server_metrics: &'k ServerMetrics,
     /// When its tenants were renewed.
     pub renewal_board: &'k RenewalBoard,
+    /// How many connections got no session of them.
+    pub session_board: &'k SessionBoard,
     /// What tells them that sessions are to end, and the server that it is to stop.
     pub control: &'k E,
     ghost few: { bound ≤ 1000 },
@@ -259,7 +262,7 @@ impl<'k, H: Lending, A: Admission, T: Wait + Clock, E: ServerControl> Pages<'k, 
             return cache.numbers(place, now);
         }
         let mut numbers = counting.numbers?;
-        self.tell_volume_age(place, &mut numbers);
+        self.add_board_numbers(place, &mut numbers);
         cache.keep(place, numbers, now);
         Some(numbers)
     }
@@ -337,15 +340,17 @@ impl<'k, H: Lending, A: Admission, T: Wait + Clock, E: ServerControl> Pages<'k, 
             return Ok(None);
         };
         self.tell_ages(tenant, &mut view.sessions);
-        self.tell_volume_age(place, &mut view.numbers);
+        self.add_board_numbers(place, &mut view.numbers);
         Ok(Some(view))
     }
 
-    /// Adds how long ago a renewal began the volume of the tenant at this place, if one did.
-    fn tell_volume_age(&self, place: u32, numbers: &mut TenantNumbers)
+    /// Adds how long ago a renewal began the volume of the tenant at this place, if one did, and how many connections got
+    /// no session of it.
+    fn add_board_numbers(&self, place: u32, numbers: &mut TenantNumbers)
         ensures { (first : ℕ) (own : ItsTenant) → AreNumbersOf first own numbers.old → AreNumbersOf first own numbers.new }
     {
         numbers.volume_age = self.renewal_board.age(self.rt, place);
+        numbers.turned_away = self.session_board.turned_away(place);
     }
 
     /// Adds to each session how long ago its last line was answered.

@@ -3,6 +3,7 @@ ghost use Rattle.std.specs.Prelude.{Bool, IsTrue, ℕ};
 ghost use Rattle.sb_connection.specs.declared.first_line.SessionName.{SessionName as ItsSessionName};
 
 use crate::renewal_board::RenewalBoard;
+use crate::session_board::SessionBoard;
 use crate::stop_switch::StopSwitch;
 use sb_server::{ServerMetrics, SessionName};
 use std::sync::Wait;
@@ -51,6 +52,8 @@ pub struct ServerControls {
     pub server_metrics: ServerMetrics,
     /// When its tenants were renewed.
     pub renewal_board: RenewalBoard,
+    /// How many of their sessions have a connection.
+    pub session_board: SessionBoard,
     /// None: it can't be told to stop.
     stop_switch: Option<StopSwitch>,
     is_ready: AtomicBool,
@@ -61,11 +64,13 @@ impl ServerControls {
     pub fn new(
         server_metrics: ServerMetrics,
         renewal_board: RenewalBoard,
+        session_board: SessionBoard,
         stop_switch: Option<StopSwitch>,
     ) -> ServerControls {
         ServerControls {
             server_metrics,
             renewal_board,
+            session_board,
             stop_switch,
             is_ready: AtomicBool::new(false),
         }

@@ -387,6 +387,14 @@ pub(crate) const VOLUME_AGE_FAMILY: &str = "\
 
 pub(crate) const VOLUME_AGE_SAMPLE: &str = "filgwesha_tenant_volume_age_seconds{tenant=\"";
 
+pub(crate) const TURNED_AWAY_FAMILY: &str = "\
+# HELP filgwesha_tenant_connections_turned_away_total Connections that got no session of it since the server began.
+# TYPE filgwesha_tenant_connections_turned_away_total counter
+";
+
+pub(crate) const TURNED_AWAY_SAMPLE: &str =
+    "filgwesha_tenant_connections_turned_away_total{tenant=\"";
+
 // What a server counts.
 
 pub(crate) const FACT_LINES: &str = "</dd></div>\n<div><dt>lines</dt><dd>";

@@ -19,7 +19,7 @@ struct Family {
 }
 
 /// How many numbers each tenant has.
-const FAMILIES: usize = 11;
+const FAMILIES: usize = 12;
 
 /// All of it as samples, in the text format 0.0.4. Error: out of memory.
 pub fn metrics(alloc: Global, view: HostView<'_>) -> Result<Vec<u8>, AllocError>
@@ -106,6 +106,11 @@ fn family_at(place: usize, tenant: &TenantNumbers) -> Family {
         7 => made(Markup::ActiveFamily, Markup::ActiveSample, tenant.active),
         8 => made(Markup::ChangesFamily, Markup::ChangesSample, tenant.changes),
         9 => made(Markup::VolumeFamily, Markup::VolumeSample, tenant.volume),
+        10 => made(
+            Markup::TurnedAwayFamily,
+            Markup::TurnedAwaySample,
+            tenant.turned_away,
+        ),
         _ => made(
             Markup::OldFamily,
             Markup::OldSample,

@@ -97,6 +97,7 @@ pub(crate) fn numbers_of(first_tenant: u32, tenant: &Tenant) -> TenantNumbers
         changes: tenant.changes_kept(),
         volume: volume.number,
         volume_age: None,
+        turned_away: 0,
         age: None,
     }
 }

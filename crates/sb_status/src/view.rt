@@ -40,6 +40,8 @@ pub struct TenantNumbers {
     pub volume: u64,
     /// A renewal began its trail so many seconds ago, if one did since the server began.
     pub volume_age: Option<u64>,
+    /// So many connections got no session of it since the server began.
+    pub turned_away: u64,
     /// The numbers are so many seconds old, since the tenant was busy.
     pub age: Option<u64>,
 }

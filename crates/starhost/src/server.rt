@@ -14,7 +14,7 @@ use crate::server_end::{OUT_OF_MEMORY, finish_served};
 use crate::system::System;
 use crate::terms::{Plan, plan_of};
 use sb_host::{Host, Naming, Opened};
-use sb_monitor::{EventLog, RenewalBoard, ServerControls, StopSwitch, Supervisor};
+use sb_monitor::{EventLog, RenewalBoard, ServerControls, SessionBoard, StopSwitch, Supervisor};
 use sb_server::ServerMetrics;
 use sb_wire::Sink;
 use sb_words::ServeWords;
@@ -83,10 +83,10 @@ fn serve_host<N: Naming + Send + Sync, T: System + Sync, W: Sink>(
         Ok(stop_switch) => stop_switch,
         Err(why) => return Err(why),
     };
-    let log = EventLog::new(rt, plan.log);
     let Some(controls) = controls_of(rt, alloc, plan, stop_switch) else {
         return Err(OUT_OF_MEMORY);
     };
+    let log = EventLog::of_server(rt, plan.log, &controls.session_board);
     let server_context = ServerContext {
         rt,
         alloc,
@@ -125,8 +125,10 @@ fn controls_of<T: Clock>(
     stop_switch: Option<StopSwitch>,
 ) -> Option<ServerControls> {
     let server_metrics = server_metrics_of(rt, alloc, plan)?;
-    let renewal_board = RenewalBoard::new(rt, alloc, plan.terms.first_tenant, plan.tenants).ok()?;
-    Some(ServerControls::new(server_metrics, renewal_board, stop_switch))
+    let first_tenant = plan.terms.first_tenant;
+    let renewal_board = RenewalBoard::new(rt, alloc, first_tenant, plan.tenants).ok()?;
+    let session_board = SessionBoard::new(alloc, first_tenant, plan.tenants).ok()?;
+    Some(ServerControls::new(server_metrics, renewal_board, session_board, stop_switch))
 }
 
 /// The metrics of the workers. None without memory.

@@ -325,6 +325,7 @@ where
             memory: memory_file(self.rt),
             server_metrics: &self.controls.server_metrics,
             renewal_board: &self.controls.renewal_board,
+            session_board: &self.controls.session_board,
             control: self.controls,
         }
     }

@@ -14,7 +14,7 @@ returns g c =
       found.0,
       found.1,
       record {
-        numbers = c.tell_volume_age.ensures first found.0 found.2.numbers;
+        numbers = c.add_board_numbers.ensures first found.0 found.2.numbers;
         sessions = aged_sessions found.0 session_count view.sessions.items c.tell_ages.new.sessions.items found.2.sessions c.tell_ages.ensures;
         rules = found.2.rules;
       },
