@@ -35,7 +35,7 @@ pub use listener::{ListenError, is_closed, listen};
 pub use memory::memory_file;
 pub use pages::Pages;
 pub use renewal_board::RenewalBoard;
-pub use server_control::{ServerControl, ServerControls};
+pub use server_control::{ServerControl, ServerControls, ServerSize};
 pub use session_board::SessionBoard;
 pub use status_port::{SideTask, StatusPort, serve_beside, work_beside};
 pub use stop_switch::StopSwitch;

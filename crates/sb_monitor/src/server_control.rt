@@ -6,8 +6,11 @@ use crate::renewal_board::RenewalBoard;
 use crate::session_board::SessionBoard;
 use crate::stop_switch::StopSwitch;
 use sb_server::{ServerMetrics, SessionName};
+use std::alloc::{AllocError, Global};
+use std::rt::Clock;
 use std::sync::Wait;
 use std::sync::atomic::{AtomicBool, Ordering};
+use std::time::Instant;
 
 /// Tells a server what an operator wants, and tells of it whether it lets clients in.
 pub trait ServerControl {
@@ -59,27 +62,59 @@ pub struct ServerControls {
     is_ready: AtomicBool,
 }
 
+/// The size of a server.
+#[derive(Clone, Copy)]
+pub struct ServerSize {
+    pub workers: usize,
+    /// The number of the first tenant, as clients name it.
+    pub first_tenant: u32,
+    pub tenants: u32,
+    /// What its workers do is counted.
+    pub is_counted: bool,
+}
+
 impl ServerControls {
-    /// Clients aren't let in yet.
-    pub fn new(
-        server_metrics: ServerMetrics,
-        renewal_board: RenewalBoard,
-        session_board: SessionBoard,
+    /// The controls of a server of this size that begins now. Clients aren't let in yet. Error: out of memory.
+    pub fn new<T: Clock>(
+        rt: &T,
+        alloc: Global,
+        size: ServerSize,
         stop_switch: Option<StopSwitch>,
-    ) -> ServerControls {
-        ServerControls {
+    ) -> Result<ServerControls, AllocError> {
+        let server_metrics = server_metrics_of(rt, alloc, size)?;
+        let renewal_board = RenewalBoard::new(rt, alloc, size.first_tenant, size.tenants)?;
+        let session_board = SessionBoard::new(alloc, size.first_tenant, size.tenants)?;
+        Ok(ServerControls {
             server_metrics,
             renewal_board,
             session_board,
             stop_switch,
             is_ready: AtomicBool::new(false),
-        }
+        })
     }
 
     /// Notes that clients are let in from now on.
     pub fn let_in(&self) {
         self.is_ready.store(true, Ordering::SeqCst);
     }
+}
+
+/// The metrics of the workers.
+fn server_metrics_of<T: Clock>(
+    rt: &T,
+    alloc: Global,
+    size: ServerSize,
+) -> Result<ServerMetrics, AllocError> {
+    if !size.is_counted {
+        return Ok(ServerMetrics::blank(alloc));
+    }
+    ServerMetrics::new(
+        alloc,
+        size.workers,
+        Instant::now(rt).ok(),
+        size.first_tenant,
+        size.tenants,
+    )
 }
 
 impl ServerControl for ServerControls {

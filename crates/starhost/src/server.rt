@@ -14,14 +14,12 @@ use crate::server_end::{OUT_OF_MEMORY, finish_served};
 use crate::system::System;
 use crate::terms::{Plan, plan_of};
 use sb_host::{Host, Naming, Opened};
-use sb_monitor::{EventLog, RenewalBoard, ServerControls, SessionBoard, StopSwitch, Supervisor};
-use sb_server::ServerMetrics;
+use sb_monitor::{EventLog, ServerControls, ServerSize, StopSwitch, Supervisor};
 use sb_wire::Sink;
 use sb_words::ServeWords;
 use std::alloc::{AllocError, Global};
 use std::marker::Brand;
 use std::rt::Clock;
-use std::time::Instant;
 
 /// Serves connections over TCP on this machine, until the last one has ended. Error: the fault that ended it, or that
 /// not all files were written behind it.
@@ -124,26 +122,11 @@ fn controls_of<T: Clock>(
     plan: Plan,
     stop_switch: Option<StopSwitch>,
 ) -> Option<ServerControls> {
-    let server_metrics = server_metrics_of(rt, alloc, plan)?;
-    let first_tenant = plan.terms.first_tenant;
-    let renewal_board = RenewalBoard::new(rt, alloc, first_tenant, plan.tenants).ok()?;
-    let session_board = SessionBoard::new(alloc, first_tenant, plan.tenants).ok()?;
-    Some(ServerControls::new(server_metrics, renewal_board, session_board, stop_switch))
-}
-
-/// The metrics of the workers. None without memory.
-fn server_metrics_of<T: Clock>(rt: &T, alloc: Global, plan: Plan) -> Option<ServerMetrics> {
-    if plan.status.is_none() {
-        return Some(ServerMetrics::blank(alloc));
-    }
-    let terms = plan.terms;
-    let began = Instant::now(rt).ok();
-    ServerMetrics::new(
-        alloc,
-        terms.workers,
-        began,
-        terms.first_tenant,
-        plan.tenants,
-    )
-    .ok()
+    let size = ServerSize {
+        workers: plan.terms.workers,
+        first_tenant: plan.terms.first_tenant,
+        tenants: plan.tenants,
+        is_counted: plan.status.is_some(),
+    };
+    ServerControls::new(rt, alloc, size, stop_switch).ok()
 }
