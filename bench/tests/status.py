@@ -5,7 +5,7 @@
 
 PROGRAM is crates/starhost/out/starhost where no word is given. Told in one line each: the pages of a small tenant and the
 samples, byte by byte as bench/tests/status_pages has them (numbers that vary are written as N); what Prometheus' `promtool` says
-of the samples, where it is installed; what is counted; a ninth connection of a tenant; how old a session's last line is, and the server; slow lines; a page
+of the samples, where it is installed; what is counted; the text of a line that wasn't begun; a ninth connection of a tenant; how old a session's last line is, and the server; slow lines; a page
 while a step runs; a session that is ended; a tenant that is renewed, and one that renews itself; requests of other sites, and
 those that name another machine; hostile requests, and silent connections while a client of the server goes on; half requests
 beside which others are answered; whom keys let in. The first thing that isn't as it is to be ends this with status 1; what has
@@ -275,6 +275,23 @@ def counts(program):
     expect("a slow line in the page", (b"<script" in page, b"&lt;script&gt;&#39; = &#39;&quot;&amp;&#39;" in page), (False, True))
     server.stop()
     print(f"counts: {len(wanted)} samples are what was done")
+
+
+def unbegun(program):
+    """A line that isn't begun for want of a share is among the slowest with its text, too."""
+    server = Server(program, "--tenant-memory", "1")
+    stream, file, reply = server.client("2 0")
+    wide = ", ".join(f"({row}, '{'x' * 100}')" for row in range(32))
+    run(file, "create table w (a int, b text)\nbegin" + f"\ninsert into w values {wide}" * 2)
+    for _ in range(2):
+        expect("a reply that takes most of a share", say(file, "select * from w x, w y"), "rows 4096\n")
+    expect("a line that isn't begun", say(file, "select * from w where a = 92"), "no 92 NotBegun\n")
+    need(b"<pre>select * from w where a = 92</pre>" in server.get("/")[1], "its text")
+    until("it is counted", lambda: server.sample('filgwesha_refusals_total{number="92",name="NotBegun"}') == 1)
+    stream.close()
+    file.close()
+    server.stop()
+    print("a line that wasn't begun is among the slowest, with its text")
 
 
 def ninth(program):
@@ -690,6 +707,7 @@ def main():
     try:
         pages(asked.program, asked.write, asked.shots)
         counts(asked.program)
+        unbegun(asked.program)
         ninth(asked.program)
         ages(asked.program)
         trial(slow, asked.program)
