@@ -1,18 +1,19 @@
 #!/usr/bin/env python3
-"""Tries a server with a journal: what was answered is there after a restart.
+"""Tries a server with a journal: what was answered and committed is there after a restart.
 
     python3 -m bench.tests.journal [PROGRAM] [--kills N] [--cuts N] [--each] [--requests N] [--calls N] [--seed N]
 
 PROGRAM is crates/starhost/out/starhost where no word is given. Eight clients make transactions while the server is killed
 at some moment, N times (12), with each --sync in turn; then it is started with the same file. Each line that was answered
-has to be a record, in its order, and each tenant's dump has to be that of `run` over the records, with the sessions that
+has to be a record, in its order, up to the last one behind which its session had no transaction, and each tenant's dump has to be that of `run` over the records, with the sessions that
 were open ended. Then the file is cut at N places (60), or at each of its first 3,000 bytes (--each): a first part of the
 records is found. So it is where other bytes stand behind the last record. Other bytes behind a cut may look like a
 record; no more is refused then than the file. N requests for memory (60) are refused in turn, alone or with those behind
 them (refuse.c, compiled by cc): where a record lacks memory, replies wait. Each of N calls on files (40) fails in turn
 (refuse_disk.c), with --sync always and second: the server ends with a fault, and what it answered is there. With second
 there is a sync each second under load and one behind the last line, none of it while nothing comes, and one that fails
-ends the server before its next reply; a run makes one before it ends. Then what can't be: two servers on one file,
+ends the server before its next reply to a commit; a run makes one before it ends. A transaction of four lines waits for two
+syncs, those of its commit. Then what can't be: two servers on one file,
 another number of tenants, another bound, a full disk, and
 files that are no journals, which stay as they are. The first thing that isn't as it is to be ends this with status 1.
 """
@@ -43,12 +44,14 @@ def journaled(program, file, *words, tenants=16, limit=None, preloaded=None, **r
 
 
 class Client(threading.Thread):
-    """It sends a line, and then waits for its answer. It notes the lines that were answered, and made."""
+    """It sends a line, and then waits for its answer. It notes the lines that were answered, and made; and how many of them a
+    restart keeps for sure: up to the last one behind which its session had no transaction."""
 
     def __init__(self, server, tenant, session, lines):
         super().__init__()
         self.port, self.tenant, self.session, self.lines = server.port, tenant, session, lines
         self.answered, self.answers = [], 0
+        self.bound, self.transacts = 0, False
 
     def run(self):
         try:
@@ -68,6 +71,16 @@ class Client(threading.Thread):
                 # what lacked memory is recorded as what it did, if at all
                 if not first.startswith((b"no 91", b"no 92")):
                     self.answered.append(line)
+                self.note_transaction(line.split()[0], first)
+
+    def note_transaction(self, word, reply):
+        """Notes whether the session has a transaction behind a line."""
+        if word == "begin" and reply.startswith(b"ok"):
+            self.transacts = True
+        if reply.startswith((b"rolledback", b"no 91")) or word in ("commit", "rollback") and not reply.startswith(b"no"):
+            self.transacts = False
+        if not self.transacts:
+            self.bound = len(self.answered)
 
     @staticmethod
     def answer(file):
@@ -144,11 +157,11 @@ def states_of(program, found, room, tenants=16):
 
 
 def are_records(file, clients, before=0):
-    """Each line that was answered is a record, in its order, behind so many that were there before."""
+    """Each line that was answered is a record, in its order, behind so many that were there before, as far as it binds."""
     found = records(file)
     for client in clients:
         own = [line for tenant, session, line in found[before:] if (tenant, session) == (client.tenant, client.session)]
-        wanted = ["open", *client.answered[1:]] if client.answered else []
+        wanted = ["open", *client.answered[1:client.bound]] if client.answered else []
         need(has_in_order(own, wanted), f"tenant {client.tenant}: lines that were answered aren't records: {wanted[-3:]} behind {own[-3:]}")
     return found
 
@@ -335,6 +348,22 @@ def tells_fault(log):
     return any("journal: " in line and "are played" not in line for line in log.splitlines())
 
 
+def syncs_by_commits(program, room, refuses):
+    """Only what binds waits for the disk: over one connection a transaction of four lines is two syncs, those of its commit."""
+    noted = os.path.join(room, "commits")
+    server = journaled(program, os.path.join(room, "committed"), preloaded=refuses, NOTED=noted)
+    Client(server, 0, 0, ["create table t (a int)"]).run()
+    before = len(syncs_in(noted)[0])
+    client = Client(server, 0, 1, ["begin", "insert into t values (1)", "select * from t", "commit"] * 20)
+    client.run()
+    need(len(client.answered) == 81 and client.bound == 81, f"transactions: {client.answered[-3:]}")
+    syncs = len(syncs_in(noted)[0]) - before
+    # its session's `open` binds, too
+    need(syncs <= 42, f"{syncs} syncs for 20 transactions")
+    need(server.end()[0] == 0, "a server whose commits wait")
+    return syncs
+
+
 def feels_late_sync(program, room, refuses):
     """With --sync second: a sync that fails is told at once, and ends the server before its next reply."""
     file = os.path.join(room, "late")
@@ -351,7 +380,9 @@ def feels_late_sync(program, room, refuses):
         # what it tells is also noted then
         time.sleep(0.5)
         stream.sendall(b"begin\n")
-        need(lines.readline() == b"", "a reply behind a sync that failed")
+        need(lines.readline() == b"ok\n", "a reply in a transaction")
+        stream.sendall(b"commit\n")
+        need(lines.readline() == b"", "a reply to a commit behind a sync that failed")
     status, _, log = server.end()
     told = [line for line in log.splitlines() if "calls on files" not in line]
     need(status == 1 and told[-1] == "fault: journal failed" and tells_fault(log), f"a sync that failed: {status}, {log[-400:]}")
@@ -463,7 +494,7 @@ def main():
     program = os.path.abspath(asked.program)
     with tempfile.TemporaryDirectory() as room:
         answered, kept, file = survives_kills(program, room, asked.kills, asked.seed)
-        print(f"{asked.kills} kills: {answered} lines were answered, and all are there; {kept} records")
+        print(f"{asked.kills} kills: {answered} lines were answered, and all that bind are there; {kept} records")
         parts, others, refused = survives_cuts(program, room, file, asked.cuts, asked.each, asked.seed)
         print(f"{parts} parts of a file: a first part of the records is found")
         print(f"{others} that were written over behind it: a first part is found, or what they look like; {refused} were refused")
@@ -474,6 +505,7 @@ def main():
             ended = fails_well(program, room, refuses, asked.calls, sync)
             print(f"--sync {sync}: each of {asked.calls} calls on files fails in turn: {ended} ended the server, and what it answered is there")
         print(f"--sync second: {trial(syncs_by_seconds, program, room, refuses)} syncs in 7 seconds, a second apart, the last behind the last line")
+        print(f"--sync always: {syncs_by_commits(program, room, refuses)} syncs for 20 transactions of four lines over one connection")
         trial(feels_late_sync, program, room, refuses)
         settles_a_run(program, room, refuses)
         cannot_be(program, room)

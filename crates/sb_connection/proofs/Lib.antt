@@ -5,5 +5,6 @@ pub mod Closing
 pub mod Whole
 pub mod Streams
 pub mod Admitting
+pub mod Binding
 pub mod Steps
 pub mod Routes

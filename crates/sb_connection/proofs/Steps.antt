@@ -17,14 +17,15 @@ use Rattle.sb_connection.specs.declared.state.State.TheVariants.{Open, Answered,
 use Rattle.sb_connection.specs.declared.state.State as stands
 use Rattle.sb_connection.specs.Conversation.{Hosted, Talks, named_by, welcome}
 use Rattle.sb_connection.specs.Exchanges.{IsClosed, said_text}
-use Rattle.sb_connection.specs.History.{AreAll, AreComplete, AreFirstLines, Converses, History, IsSessionOf, IsSettled, MayReceive, Stands, Tells, Transacts, after_end, after_receiving, after_resuming, after_sending, after_suspending, nothing_yet}
-use Rattle.sb_connection.specs.ProtocolState.{Adds, AddsLast, Answers, AreSaid, AreTold, Finishes, Holds, IsNamedBy, ResumesIn, Steps, SuspendsIn, Talking, ended, last_state, named_after, named_first, naming, stays, talk, waits}
+use Rattle.sb_connection.specs.History.{AreAll, AreComplete, AreFirstLines, BindsAtMost, Converses, History, IsSessionOf, IsSettled, MayReceive, Stands, Tells, Transacts, after_end, after_receiving, after_resuming, after_sending, after_suspending, nothing_yet}
+use Rattle.sb_connection.specs.ProtocolState.{Adds, AddsLast, Answers, AreSaid, AreTold, Finishes, Holds, IsNamedBy, IsWithin, IsWithinBy, ResumesIn, Steps, SuspendsIn, Talking, binding_after, binding_behind, ended, has_in, last_state, named_after, named_first, naming, stays, talk, waits}
 use Rattle.sb_connection.specs.Policies.{Admits}
 use Rattle.sb_connection.specs.Responses.{Greets, LeavesSome, Responds, RespondsBy, State, life_in, over, stays_in, talk_of, waits_in}
 use Rattle.sb_connection.specs.declared.first_line.SessionName.{SessionName}
 use Rattle.sb_connection.specs.Admission.{BringsKey}
 use Rattle.sb_connection.specs.Standing.{is_open}
 use Rattle.sb_connection.proofs.Admitting.{all_keep_session, keeps_session, last_cases, none_before, none_from, some_from}
+use Rattle.sb_connection.proofs.Binding.{bound_by, few_by, few_sent, has_by, has_of, within_line, within_more, within_sent}
 use Rattle.sb_connection.proofs.Volumes.{all_said, left_behind, said_then, told_resumed, told_suspended, told_then}
 use Rattle.sb_connection.proofs.Whole.{admitted, transacting, whole}
 
@@ -39,6 +40,8 @@ nothing_holds admits hosted = record {
   left = refl;
   told = (refl, refl);
   named = refl;
+  within = tt;
+  few = omega arith;
 }
 
 -- behind the last line none is answered
@@ -143,6 +146,27 @@ module _ (admits : Admits) (k : Talking) (holds : Holds admits k) where
         is = is ∙ ap (λ (s : Option Caller). option_map_or (λ (c : Caller). c.life.has_transaction) s false) one.1 ∙ said.4;
       }
 
+  -- what binds of what is to be sent
+  pub binding_now : h.attached ≡ true → BindsAtMost h
+  binding_now attached =
+      let one = some_from k.caller (some_by (is_some k.caller) (waits k) (sym holds.attached ∙ attached)) in
+      let w : IsWithin one.0.life.has_transaction holds.pieces holds.text holds.tells.lost h.handed h.binding =
+      subst (λ (o : Option Caller). IsWithinBy (life_in o) holds.pieces holds.text holds.tells.lost h.handed h.binding) one.1 holds.within in record {
+        first = w.first;
+        before = w.before;
+        behind = w.behind;
+        over = over (talk k);
+        tells = record {
+          taken = taken;
+          split = holds.tells.split;
+          lost = holds.tells.lost;
+          whole = sym w.text_is ∙ holds.tells.whole;
+          stands = subst (λ (ps : List Piece). Stands h.state h taken ps holds.tells.lost (over (talk k))) w.lines_are holds.tells.stands;
+        };
+        within = w.within;
+        sent = w.sent;
+      }
+
   -- ---- from outside
 
   stands_sent : (s : stands.State) (count : ℕ) (pieces : List Piece) (lost : List ℕ) (b : Bool) → Stands s h taken pieces lost b → Stands s (after_sending h count) taken pieces lost b
@@ -152,10 +176,11 @@ module _ (admits : Admits) (k : Talking) (holds : Holds admits k) where
   stands_sent Failed count pieces lost b so = so
 
   -- the same is told where something was sent, or no more comes
-  holds_with : (at_end : Bool) (handed pending : List ℕ) → holds.text ≡ (handed ++ pending) ++ holds.tells.lost
-      → Stands h.state (record h { at_end = at_end; handed = handed; pending = pending }) taken holds.pieces holds.tells.lost (over (talk k))
-      → Holds admits (record k { history = record h { at_end = at_end; handed = handed; pending = pending } })
-  holds_with at_end handed pending whole so = record {
+  holds_with : (at_end : Bool) (handed pending : List ℕ) (binding : ℕ) → holds.text ≡ (handed ++ pending) ++ holds.tells.lost
+      → Stands h.state (record h { at_end = at_end; handed = handed; pending = pending; binding = binding }) taken holds.pieces holds.tells.lost (over (talk k))
+      → IsWithinBy (life_in k.caller) holds.pieces holds.text holds.tells.lost handed binding → binding ≤ length pending
+      → Holds admits (record k { history = record h { at_end = at_end; handed = handed; pending = pending; binding = binding } })
+  holds_with at_end handed pending binding whole so within few = record {
     pieces = holds.pieces;
     text = holds.text;
     tells = record {
@@ -171,14 +196,17 @@ module _ (admits : Admits) (k : Talking) (holds : Holds admits k) where
     left = holds.left;
     told = holds.told;
     named = holds.named;
+    within = within;
+    few = few;
   }
 
   pub holds_sent : (count : ℕ) → Holds admits (record k { history = after_sending h count })
   holds_sent count =
       let sent : (h.handed ++ take count h.pending) ++ drop count h.pending ≡ h.handed ++ h.pending =
       append_assoc h.handed (take count h.pending) (drop count h.pending) ∙ ap (λ (t : List ℕ). h.handed ++ t) (take-append-drop count h.pending) in
-      holds_with h.at_end (h.handed ++ take count h.pending) (drop count h.pending) (holds.tells.whole ∙ ap (λ (t : List ℕ). t ++ holds.tells.lost) (sym sent))
+      holds_with h.at_end (h.handed ++ take count h.pending) (drop count h.pending) (h.binding - count) (holds.tells.whole ∙ ap (λ (t : List ℕ). t ++ holds.tells.lost) (sym sent))
       (stands_sent h.state count holds.pieces holds.tells.lost (over (talk k)) holds.tells.stands)
+      (within_sent (life_in k.caller) holds.pieces holds.text holds.tells.lost h.handed h.pending h.binding count holds.few holds.within) (few_sent h.pending h.binding count holds.few)
 
   -- ---- where the session doesn't wait
 
@@ -280,10 +308,43 @@ module _ (admits : Admits) (k : Talking) (holds : Holds admits k) where
       left = holds.left;
       told = holds.told;
       named = holds.named;
+      within = holds.within;
+      few = holds.few;
     }
 
     pub holds_ended : Holds admits (record k { history = after_end h })
-    holds_ended = holds_with true h.handed h.pending holds.tells.whole (stands_open (after_end h) taken refl standing.0)
+    holds_ended = holds_with true h.handed h.pending h.binding holds.tells.whole (stands_open (after_end h) taken refl standing.0) holds.within holds.few
+
+    -- before a session is there no line was answered
+    alone : life_in k.caller ≡ None → (holds.pieces ≡ []) × (holds.text ≡ [])
+    alone none =
+        let no_piece = none_before admits h.hosted holds.pieces holds.text (talk k) answered none standing.2 in
+        (no_piece, (subst (λ (qs : List Piece). AreSaid admits h.hosted (None, false) qs holds.text (talk k)) no_piece answered).0)
+
+    -- nothing is lost yet
+    within_yet : IsWithinBy (life_in k.caller) holds.pieces holds.text [] h.handed h.binding
+    within_yet = subst (λ (t : List ℕ). IsWithinBy (life_in k.caller) holds.pieces holds.text t h.handed h.binding) standing.1 holds.within
+
+    -- what binds behind one line more
+    within_then : (new : Talking) (p : Piece) (own lost : List ℕ) → RespondsBy admits h.hosted (life_in k.caller) p own (talk new) → new.history.handed ≡ h.handed
+        → holds.text ++ own ≡ (new.history.handed ++ new.history.pending) ++ lost → new.history.binding ≡ binding_after (has_in new.caller) h.binding (length new.history.pending)
+        → IsWithinBy (life_in new.caller) (holds.pieces ++ p ∷ []) (holds.text ++ own) lost new.history.handed new.history.binding
+    within_then new p own lost responds same whole binds =
+        let yet : IsWithinBy (life_in k.caller) holds.pieces holds.text [] new.history.handed h.binding =
+        subst (λ (t : List ℕ). IsWithinBy (life_in k.caller) holds.pieces holds.text [] t h.binding) (sym same) within_yet in
+        within_line admits h.hosted p own holds.pieces holds.text lost new.history.handed new.history.pending h.binding new.history.binding whole (talk k) (talk new) alone responds yet
+        (binds ∙ ap (λ (b : Bool). binding_after b h.binding (length new.history.pending)) (has_by new.caller))
+
+    -- at most as much as before and what was said
+    few_then : (new : Talking) (s : stands.State) (own : List ℕ) → Adds s h.pending own new.history.pending (over (talk new)) → new.history.binding ≡ binding_after (has_in new.caller) h.binding (length new.history.pending)
+        → new.history.binding ≤ length new.history.pending
+    few_then new s own adds binds = few_by (has_in new.caller) h.binding new.history.binding (length new.history.pending) binds (grown s h.pending own new.history.pending (over (talk new)) adds (length h.pending) refl holds.few)
+      where
+        grown : (s : stands.State) (old own new : List ℕ) (is_over : Bool) → Adds s old own new is_over → (n : ℕ) → n ≡ length old → h.binding ≤ n → h.binding ≤ length new
+        grown Open old own new is_over (added, going_on) n n_is few = let long = ap length added in let sum = length-append old own in omega (arith, long, sum, n_is, few)
+        grown Answered old own new is_over none n n_is few = absurd none
+        grown Over old own new is_over (added, at_last) n n_is few = let long = ap length added in let sum = length-append old own in omega (arith, long, sum, n_is, few)
+        grown Failed old own new is_over same n n_is few = let long = ap length same in omega (arith, long, n_is, few)
 
     -- ---- a step
 
@@ -306,6 +367,8 @@ module _ (admits : Admits) (k : Talking) (holds : Holds admits k) where
           left = holds.left;
           told = holds.told;
           named = holds.named;
+          within = holds.within;
+          few = holds.few;
         }
 
     -- the line that the first bytes complete is answered
@@ -342,6 +405,8 @@ module _ (admits : Admits) (k : Talking) (holds : Holds admits k) where
             left = a.streams.4 ∙ holds.left ∙ ap (λ (l : List Stay). map (λ (stay : Stay). stay.0) l) (sym a.stays_are);
             told = told_more new there a.streams.0 a.stays_are a.waits_are (p ∷ []) a.text (a.text, [], talk new, sym (append-nil a.text), standing.2, a.responds, (refl, refl));
             named = named ∙ names_more (p ∷ []) ∙ ap (λ (n : Hosted). named_first n.keyed pieces) (sym a.streams.0);
+            within = within_then new p a.text t.0.lost a.responds a.streams.3 t.0.whole a.binds;
+            few = few_then new new.history.state a.text a.adds a.binds;
           }
 
       -- it took bytes
@@ -401,6 +466,49 @@ module _ (admits : Admits) (k : Talking) (holds : Holds admits k) where
           none_told new.history taken all a.text (over (talk new)) last_split a.streams.3 same
           (subst (λ (s : stands.State). Stands s new.history taken all a.text (over (talk new))) (sym is) (inr are_all))
 
+      -- what binds behind it: as before, where there is no line
+      same_last : last_piece k.opened ≡ [] → (a.text ≡ []) × (talk new ≡ talk k)
+      same_last no_line = subst (λ (ps : List Piece). AreAnswered (Responds admits h.hosted) over (talk k) ps a.text (talk new)) no_line a.answered
+
+      binds_by : (ps : List Piece) → last_piece k.opened ≡ ps → new.history.binding ≡ binding_behind ps (has_in new.caller) h.binding (length new.history.pending)
+      binds_by ps is = a.binds ∙ ap (λ (qs : List Piece). binding_behind qs (has_in new.caller) h.binding (length new.history.pending)) is
+
+      last_responds : last_piece k.opened ≡ k.opened ∷ [] → RespondsBy admits h.hosted (life_in k.caller) k.opened a.text (talk new)
+      last_responds is =
+          let are = subst (λ (ps : List Piece). AreAnswered (Responds admits h.hosted) over (talk k) ps a.text (talk new)) is a.answered in
+          let own : are.0 ≡ a.text = sym (append-nil are.0) ∙ ap (λ (t : List ℕ). are.0 ++ t) (sym are.6.0) ∙ sym are.3 in
+          subst (λ (s : State). RespondsBy admits h.hosted (life_in k.caller) k.opened a.text s) (sym are.6.1)
+          (subst (λ (t : List ℕ). RespondsBy admits h.hosted (life_in k.caller) k.opened t are.2) own are.5)
+
+      last_within : (lost : List ℕ) → holds.text ++ a.text ≡ (new.history.handed ++ new.history.pending) ++ lost → (last_piece k.opened ≡ []) ⊎ (last_piece k.opened ≡ k.opened ∷ [])
+          → IsWithinBy (life_in new.caller) all (holds.text ++ a.text) lost new.history.handed new.history.binding
+      last_within lost whole (inl no_line) =
+          let same = same_last no_line in
+          let lines : holds.pieces ≡ all = sym (append-nil holds.pieces) ∙ ap (λ (ps : List Piece). holds.pieces ++ ps) (sym no_line) in
+          let text : holds.text ≡ holds.text ++ a.text = sym (append-nil holds.text) ∙ ap (λ (t : List ℕ). holds.text ++ t) (sym same.0) in
+          subst (λ (s : State). IsWithinBy s.0 all (holds.text ++ a.text) lost new.history.handed new.history.binding) (sym same.1)
+          (subst (λ (n : ℕ). IsWithinBy (life_in k.caller) all (holds.text ++ a.text) lost new.history.handed n) (sym (binds_by [] no_line))
+          (subst (λ (t : List ℕ). IsWithinBy (life_in k.caller) all (holds.text ++ a.text) lost t h.binding) (sym a.streams.3)
+          (subst (λ (t : List ℕ). IsWithinBy (life_in k.caller) all t lost h.handed h.binding) text
+          (subst (λ (ps : List Piece). IsWithinBy (life_in k.caller) ps holds.text lost h.handed h.binding) lines
+          (within_more (life_in k.caller) holds.pieces holds.text lost h.handed h.binding within_yet)))))
+      last_within lost whole (inr is) =
+          subst (λ (ps : List Piece). IsWithinBy (life_in new.caller) (holds.pieces ++ ps) (holds.text ++ a.text) lost new.history.handed new.history.binding) (sym is)
+          (within_then new k.opened a.text lost (last_responds is) a.streams.3 whole (binds_by (k.opened ∷ []) is))
+
+      grown_last : h.binding ≤ length new.history.pending
+      grown_last = by new.history.state a.text new.history.pending a.adds
+        where
+          by : (s : stands.State) (own pending : List ℕ) → AddsLast s h.pending own pending → h.binding ≤ length pending
+          by Open own pending none = absurd none
+          by Answered own pending added = let long = ap length added in let sum = length-append h.pending own in let few = holds.few in omega (arith, long, sum, few)
+          by Over own pending none = absurd none
+          by Failed own pending same = let long = ap length same in let few = holds.few in omega (arith, long, few)
+
+      last_few : (last_piece k.opened ≡ []) ⊎ (last_piece k.opened ≡ k.opened ∷ []) → new.history.binding ≤ length new.history.pending
+      last_few (inl no_line) = subst (λ (n : ℕ). n ≤ length new.history.pending) (sym (binds_by [] no_line)) grown_last
+      last_few (inr is) = few_by (has_in new.caller) h.binding new.history.binding (length new.history.pending) (binds_by (k.opened ∷ []) is) grown_last
+
       pub holds_last : IsNamedBy k (last_piece k.opened) new → Holds admits new
       holds_last named =
           let t = last_told new.history.state refl a.adds in record {
@@ -413,6 +521,8 @@ module _ (admits : Admits) (k : Talking) (holds : Holds admits k) where
             left = a.streams.4 ∙ holds.left ∙ ap (λ (l : List Stay). map (λ (stay : Stay). stay.0) l) (sym a.stays_are);
             told = told_more new there a.streams.0 a.stays_are a.waits_are (last_piece k.opened) a.text a.answered;
             named = named ∙ names_more (last_piece k.opened) ∙ ap (λ (n : Hosted). named_first n.keyed all) (sym a.streams.0);
+            within = last_within t.0.lost t.0.whole (last_cases k.opened);
+            few = last_few (last_cases k.opened);
           }
 
       -- a session that it opens
@@ -513,7 +623,7 @@ module _ (admits : Admits) (k0 k : Talking) (is : k0 ≡ k) (going : is_open k0.
 -- what answers the line under its name answers it
 pub answers_named : (admits : Admits) (old new : Talking) → Answers admits (naming old) new → Answers admits old new
 answers_named admits old new a =
-    record { text = a.text; responds = a.responds; adds = a.adds; attached = a.attached; stays_are = a.stays_are; waits_are = a.waits_are; streams = a.streams; waiting = a.waiting; opened = a.opened }
+    record { text = a.text; responds = a.responds; adds = a.adds; binds = a.binds; attached = a.attached; stays_are = a.stays_are; waits_are = a.waits_are; streams = a.streams; waiting = a.waiting; opened = a.opened }
 
 -- ---- the last line
 
@@ -539,6 +649,7 @@ module _ (old mid : Talking) (q : Piece) (some : q ∷ [] ≡ last_piece old.ope
         subst (λ (ps : List Piece). AreAnswered (Responds admits old.history.hosted) over (talk old) ps a.text (talk mid)) (sym (last_some old.opened q some))
         (a.text, [], talk mid, sym (append-nil a.text), going, a.responds, (refl, refl));
     adds = adds_last mid.history.state old.history.pending a.text mid.history.pending (over (talk mid)) a.adds;
+    binds = a.binds ∙ ap (λ (ps : List Piece). binding_behind ps (has_in mid.caller) old.history.binding (length mid.history.pending)) (sym (last_some old.opened q some));
     attached = a.attached;
     stays_are = a.stays_are;
     waits_are = a.waits_are;
@@ -557,6 +668,7 @@ finishes_nothing admits old none attached = record {
   text = [];
   answered = subst (λ (ps : List Piece). AreAnswered (Responds admits old.history.hosted) over (talk old) ps [] (talk old)) (sym none) (refl, refl);
   adds = sym (append-nil old.history.pending);
+  binds = ap (λ (ps : List Piece). binding_behind ps (has_in old.caller) old.history.binding (length old.history.pending)) (sym none);
   attached = attached;
   stays_are = refl;
   waits_are = refl;
@@ -638,6 +750,9 @@ module _ (admits : Admits) (old : Talking) (stub : Stub) (new : Talking) (holds 
     stands = subst (λ (t : State). Stands old.history.state (after_suspending old.history stub.receipts.items) holds.tells.taken holds.pieces holds.tells.lost (over t)) (sym same_talk) (stands_left old.history.state holds.pieces holds.tells.lost (over (talk old)) holds.tells.stands);
   }
 
+  now_within : IsWithinBy (Some now.life) holds.pieces holds.text holds.tells.lost old.history.handed old.history.binding
+  now_within = subst (λ (s : State). IsWithinBy s.0 holds.pieces holds.text holds.tells.lost old.history.handed old.history.binding) (sym same_talk) holds.within
+
   pub holds_suspended : Holds admits new
   holds_suspended = subst (Holds admits) (sym by.is) (record {
     pieces = holds.pieces;
@@ -649,6 +764,8 @@ module _ (admits : Admits) (old : Talking) (stub : Stub) (new : Talking) (holds 
     left = lefts;
     told = now_told;
     named = holds.named;
+    within = now_within;
+    few = holds.few;
   })
 
 -- it is in the next one
@@ -684,6 +801,8 @@ module _ (admits : Admits) (old : Talking) (holds : Holds admits old) (c : Calle
     left = holds.left ∙ ap (λ (o : Option Caller). map (λ (s : Stay). s.0) (stays_in o)) was;
     told = told_resumed admits old.history.hosted (Some c.life, old.away) c.life refl going [] (None, false) c.stays holds.pieces holds.text waiting_told;
     named = holds.named;
+    within = subst (λ (o : Option Caller). IsWithinBy (life_in o) holds.pieces holds.text holds.tells.lost old.history.handed old.history.binding) was holds.within;
+    few = holds.few;
   }
 
 pub holds_resumed : (admits : Admits) (old new : Talking) → Holds admits old → ResumesIn old new → Holds admits new

@@ -39,7 +39,7 @@ calls_append (e ∷ a) b (call, last, first) none others = (
   calls_append a b first (λ ended. none (by_cases (ends e) (λ is. ap (λ (x : Bool). x || has_ended a) is) (λ is. ap (λ (x : Bool). x || has_ended a) is ∙ ended))) others,
 )
 
-transacts_append : (was : Bool) (a b : List Exchange) → transacts_from was (a ++ b) ≡ transacts_from (transacts_from was a) b
+pub transacts_append : (was : Bool) (a b : List Exchange) → transacts_from was (a ++ b) ≡ transacts_from (transacts_from was a) b
 transacts_append was [] b = refl
 transacts_append was (e ∷ a) b = transacts_append (transacts_behind was e) a b
 
@@ -67,7 +67,7 @@ module _ (admits : Admits) (hosted : Hosted) where
   turned (line bytes) text away greets = turned_line hosted.keyed bytes text away greets
 
   -- the session that was opened
-  abbrev OpensNamed : Option SessionName → List ℕ → Life → Type 0
+  abbrev pub OpensNamed : Option SessionName → List ℕ → Life → Type 0
   OpensNamed named text s = (n : SessionName) × (named ≡ Some n) × Opens hosted.tenants (tenant_at hosted n.tenant) n.session s × (text ≡ welcome)
 
   opened_by : (named : Option SessionName) (text : List ℕ) (s : Life) (away : Bool) → GreetsBy hosted named text (Some s) away → OpensNamed named text s
@@ -83,7 +83,7 @@ module _ (admits : Admits) (hosted : Hosted) where
   opened_line false bytes text s away greets = opened_by (named_of bytes) text s away greets
   opened_line true bytes text s away greets = opened_visitor (visitor_of bytes) text s away greets
 
-  opened : (p : Piece) (text : List ℕ) (s : Life) (away : Bool) → Greets admits hosted p text (Some s) away → OpensNamed (named_by hosted.keyed p) text s
+  pub opened : (p : Piece) (text : List ℕ) (s : Life) (away : Bool) → Greets admits hosted p text (Some s) away → OpensNamed (named_by hosted.keyed p) text s
   opened too_long text s away (none, is_away, is) = absurd cc
   opened (line bytes) text s away greets = opened_line hosted.keyed bytes text s away greets
 

@@ -49,6 +49,11 @@ abbrev pub transacts_from : Bool → List Exchange → Bool
 transacts_from was [] = was
 transacts_from was (e ∷ es) = transacts_from (transacts_behind was e) es
 
+-- behind each of them it has one
+abbrev pub AreWithin : Bool → List Exchange → Type 0
+AreWithin was [] = ⊤
+AreWithin was (e ∷ es) = (transacts_behind was e ≡ true) × AreWithin (transacts_behind was e) es
+
 -- ---- the end
 
 -- an `end` that is answered `ok`

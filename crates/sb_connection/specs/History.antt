@@ -1,12 +1,12 @@
 -- Machine: what a connection has received and handed out, however both were cut, and which lines it has answered.
-use Rattle.std.specs.Prelude.{◌≡◌, ◌⊎◌, ℕ, Bool, true, false, List, [], ◌++◌, take, drop, map, flat_map, Option, Some, None, ◌∷◌}
+use Rattle.std.specs.Prelude.{◌≡◌, ◌⊎◌, ◌≤◌, ◌+◌, ◌-◌, ℕ, Bool, true, false, List, [], ◌++◌, length, take, drop, map, flat_map, Option, Some, None, ◌∷◌}
 use Rattle.sb_wire.specs.Lines.{Piece, complete_pieces, last_piece, open_line, piece_of}
 use Rattle.sb_desk.specs.declared.stub.Stub.{Stub}
 use Rattle.sb_desk.specs.declared.receipts.Receipt.{Receipt}
 use Rattle.sb_connection.specs.declared.state.State.{State}
 use Rattle.sb_connection.specs.declared.state.State.TheVariants.{Open, Answered, Over, Failed}
 use Rattle.sb_connection.specs.Conversation.{Hosted, Talks, named_by, welcome}
-use Rattle.sb_connection.specs.Exchanges.{Exchange, line_in, said_text, transacts_from}
+use Rattle.sb_connection.specs.Exchanges.{AreWithin, Exchange, line_in, said_text, transacts_from}
 use Rattle.sb_connection.specs.Policies.{Admits}
 use Rattle.sb_connection.specs.declared.first_line.SessionName.{SessionName}
 use Rattle.sb_connection.specs.Standing.{is_open}
@@ -31,11 +31,13 @@ pub record History : Type 0 where
   -- all bytes that were sent, and those that are to be sent next
   pub handed : List ℕ
   pub pending : List ℕ
+  -- so many of these bind: they end with the last reply behind whose line the session has no transaction
+  pub binding : ℕ
 
 -- ---- what is done from outside
 
 abbrev pub nothing_yet : Hosted → History
-nothing_yet hosted = record { hosted = hosted; state = Open; attached = false; waits = false; left = []; named = None; at_end = false; received = []; waiting = []; handed = []; pending = [] }
+nothing_yet hosted = record { hosted = hosted; state = Open; attached = false; waits = false; left = []; named = None; at_end = false; received = []; waiting = []; handed = []; pending = []; binding = 0 }
 
 abbrev pub after_receiving : History → List ℕ → History
 after_receiving h bytes = record h { received = h.received ++ bytes; waiting = h.waiting ++ bytes }
@@ -44,7 +46,7 @@ abbrev pub after_end : History → History
 after_end h = record h { at_end = true }
 
 abbrev pub after_sending : History → ℕ → History
-after_sending h count = record h { handed = h.handed ++ take count h.pending; pending = drop count h.pending }
+after_sending h count = record h { handed = h.handed ++ take count h.pending; pending = drop count h.pending; binding = h.binding - count }
 
 -- behind so many bytes that wait to be sent no line is answered, and none is read
 abbrev pub pending_limit : ℕ
@@ -117,6 +119,16 @@ pub record Transacts (h : History) (has : Bool) : Type 0 where
   pub over : Bool
   pub tells : Tells h (first ∷ map line_in exchanges) (welcome ++ flat_map said_text exchanges) over
   pub is : has ≡ transacts_from false exchanges
+
+-- Behind the bytes that bind stand replies to lines behind each of which the session has a transaction. What stands before these was sent, binds, or is lost.
+pub record BindsAtMost (h : History) : Type 0 where
+  pub first : Piece
+  pub before : List Exchange
+  pub behind : List Exchange
+  pub over : Bool
+  pub tells : Tells h (first ∷ map line_in (before ++ behind)) (welcome ++ flat_map said_text (before ++ behind)) over
+  pub within : AreWithin (transacts_from false before) behind
+  pub sent : length (welcome ++ flat_map said_text before) ≤ (length h.handed + h.binding) + length tells.lost
 
 -- what a connection did until it was closed
 pub record Converses (admits : Admits) (h : History) (stub : Option Stub) : Type 0 where

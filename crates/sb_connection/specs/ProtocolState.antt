@@ -1,18 +1,19 @@
 -- Machine: what holds of a connection between its steps.
-use Rattle.std.specs.Prelude.{◌≡◌, ◌⊎◌, ◌<◌, ℕ, Bool, true, false, not, ◌&&◌, List, [], ◌∷◌, ◌++◌, length, map, Option, Some, None, is_some}
+use Rattle.std.specs.Option.{option_map_or}
+use Rattle.std.specs.Prelude.{◌≡◌, ◌⊎◌, ◌<◌, ◌≤◌, ◌+◌, ⊤, ℕ, Bool, true, false, not, ◌&&◌, List, [], ◌∷◌, ◌++◌, length, map, flat_map, Option, Some, None, is_some}
 use Rattle.sb_wire.specs.Lines.{Piece, last_piece, open_line, piece_of}
 use Rattle.sb_wire.specs.Responses.{AreAnswered}
 use Rattle.sb_connection.specs.declared.state.State.TheVariants.{Open, Answered, Over, Failed}
 use Rattle.sb_connection.specs.declared.state.State as stands
 use Rattle.sb_connection.specs.History.{History, IsSettled, SameStreams, Tells, after_resuming, after_suspending}
-use Rattle.sb_connection.specs.Conversation.{Hosted, named_by}
+use Rattle.sb_connection.specs.Conversation.{Hosted, named_by, welcome}
 use Rattle.sb_connection.specs.Policies.{Admits}
 use Rattle.sb_desk.specs.declared.receipts.Receipt.{Receipt}
 use Rattle.sb_desk.specs.Calls.{Session}
 use Rattle.sb_desk.specs.declared.stub.Stub.{Stub}
 use Rattle.sb_connection.specs.Callers.{Caller, IsNewcomer, Life, Stay, Suspends, calls_of, opening_receipt}
-use Rattle.sb_connection.specs.Exchanges.{closing_receipts}
-use Rattle.sb_connection.specs.Responses.{Responds, State, over, stays_in, talk_of, waits_in}
+use Rattle.sb_connection.specs.Exchanges.{AreWithin, Exchange, closing_receipts, line_in, said_text, transacts_from}
+use Rattle.sb_connection.specs.Responses.{Responds, State, life_in, over, stays_in, talk_of, waits_in}
 use Rattle.sb_connection.specs.declared.first_line.SessionName.{SessionName}
 use Rattle.sb_connection.specs.Admission.{LetsIn}
 
@@ -67,6 +68,40 @@ AreTold admits hosted waiting before old (stay ∷ more) pieces text new =
     × AreSaid admits hosted old now said mid × LeavesBehind before mid stay × (stay.1 ≡ true → (more ≡ []) × (waiting ≡ true))
     × AreTold admits hosted waiting (before ++ calls_of stay) mid more behind rest new
 
+-- ---- what binds
+
+-- whether the session has a transaction, if there is one
+abbrev pub has_in : Option Caller → Bool
+has_in caller = option_map_or (λ c. c.life.has_transaction) caller false
+
+-- behind a reply all that is to be sent binds, unless the session has a transaction
+abbrev pub binding_after : Bool → ℕ → ℕ → ℕ
+binding_after true old all = old
+binding_after false old all = all
+
+-- behind the replies to these lines
+abbrev pub binding_behind : List Piece → Bool → ℕ → ℕ → ℕ
+binding_behind [] has old all = old
+binding_behind (p ∷ ps) has old all = binding_after has old all
+
+-- the exchanges so far: those behind what was sent, binds or is lost leave the session in a transaction
+pub record IsWithin (has : Bool) (pieces : List Piece) (text lost handed : List ℕ) (binding : ℕ) : Type 0 where
+  pub first : Piece
+  pub before : List Exchange
+  pub behind : List Exchange
+  pub lines_are : pieces ≡ first ∷ map line_in (before ++ behind)
+  pub text_is : text ≡ welcome ++ flat_map said_text (before ++ behind)
+  pub has_is : has ≡ transacts_from false (before ++ behind)
+  pub within : AreWithin (transacts_from false before) behind
+  pub sent : length (welcome ++ flat_map said_text before) ≤ (length handed + binding) + length lost
+
+-- of a session that was opened
+abbrev pub IsWithinBy : Option Life → List Piece → List ℕ → List ℕ → List ℕ → ℕ → Type 0
+IsWithinBy None pieces text lost handed binding = ⊤
+IsWithinBy (Some life) pieces text lost handed binding = IsWithin life.has_transaction pieces text lost handed binding
+
+-- ---- a connection between its steps
+
 -- the session answered the lines of the bytes that are looked at, and goes on behind them
 pub record Holds (admits : Admits) (k : Talking) : Type 0 where
   pub pieces : List Piece
@@ -78,6 +113,8 @@ pub record Holds (admits : Admits) (k : Talking) : Type 0 where
   pub left : k.history.left ≡ map (λ stay. stay.0) (stays k)
   pub told : AreTold admits k.history.hosted (waits k) [] (None, false) (stays k) pieces text (talk k)
   pub named : k.history.named ≡ named_first k.history.hosted.keyed pieces
+  pub within : IsWithinBy (life_in k.caller) pieces text tells.lost k.history.handed k.history.binding
+  pub few : k.history.binding ≤ length k.history.pending
 
 -- A step keeps what holds, and receives and sends nothing. It opens a session only to whom it may, and loses none; where there may be more, it
 -- took bytes.
@@ -139,6 +176,7 @@ pub record Answers (admits : Admits) (old new : Talking) : Type 0 where
   pub text : List ℕ
   pub responds : Responds admits old.history.hosted (talk old) old.opened text (talk new)
   pub adds : Adds new.history.state old.history.pending text new.history.pending (over (talk new))
+  pub binds : new.history.binding ≡ binding_after (has_in new.caller) old.history.binding (length new.history.pending)
   pub attached : new.history.attached ≡ (is_some new.caller && not (waits new))
   pub stays_are : stays new ≡ stays old
   pub waits_are : waits new ≡ waits old
@@ -166,6 +204,7 @@ pub record Finishes (admits : Admits) (old new : Talking) : Type 0 where
   pub text : List ℕ
   pub answered : AreAnswered (Responds admits old.history.hosted) over (talk old) (last_piece old.opened) text (talk new)
   pub adds : AddsLast new.history.state old.history.pending text new.history.pending
+  pub binds : new.history.binding ≡ binding_behind (last_piece old.opened) (has_in new.caller) old.history.binding (length new.history.pending)
   pub attached : new.history.attached ≡ (is_some new.caller && not (waits new))
   pub stays_are : stays new ≡ stays old
   pub waits_are : waits new ≡ waits old

@@ -3,7 +3,7 @@ ghost use Rattle.std.specs.Prelude.{◌≡◌, ◌⊎◌, ◌<◌, ◌≤◌, �
 ghost use Rattle.sb_connection.specs.Conversation.{hosting_by};
 ghost use Rattle.sb_connection.specs.Admission.{LetsIn};
 ghost use Rattle.sb_connection.specs.Exchanges.{IsClosed};
-ghost use Rattle.sb_connection.specs.History.{Converses, IsSessionOf, IsSettled, MayReceive, SameStreams, Transacts, after_end, after_receiving, after_resuming, after_sending, after_suspending, nothing_yet, pending_limit};
+ghost use Rattle.sb_connection.specs.History.{BindsAtMost, Converses, IsSessionOf, IsSettled, MayReceive, SameStreams, Transacts, after_end, after_receiving, after_resuming, after_sending, after_suspending, nothing_yet, pending_limit};
 ghost use Rattle.sb_connection.specs.Standing.{is_open};
 ghost use Rattle.sb_connection.specs.Traffic.{after_write};
 
@@ -121,6 +121,14 @@ impl<H: Hosting, D: Doorkeeper> Connection<H, D> {
         ensures { IsTrue result ↔ (0 < length self.now.pending) }
     {
         !self.protocol_state.pending().is_empty()
+    }
+
+    /// True if a reply that is to be sent binds: behind its line the session has no transaction.
+    pub fn binds(&self) -> bool
+        ensures is { IsTrue result ↔ (0 < self.now.binding) }
+        ensures others { self.now.attached ≡ true → BindsAtMost self.now }
+    {
+        self.protocol_state.binding() > 0
     }
 
     /// True if no line is answered any more, and all replies are sent.

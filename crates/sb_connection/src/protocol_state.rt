@@ -4,7 +4,7 @@ ghost use Rattle.std.specs.Option.{option_map_or};
 ghost use Rattle.sb_wire.specs.Lines.{last_piece, line};
 ghost use Rattle.sb_connection.specs.Conversation.{hosting_by};
 ghost use Rattle.sb_connection.specs.History.{MayReceive, after_end, after_receiving, after_sending, nothing_yet, pending_limit};
-ghost use Rattle.sb_connection.specs.ProtocolState.{Answers, Finishes, IsNamedBy, ResumesIn, Steps, SuspendsIn, ended, naming, talk};
+ghost use Rattle.sb_connection.specs.ProtocolState.{Answers, Finishes, IsNamedBy, ResumesIn, Steps, SuspendsIn, binding_after, ended, naming, talk};
 ghost use Rattle.sb_connection.specs.Responses.{over};
 ghost use Rattle.sb_connection.specs.Standing.{is_open};
 ghost use Rattle.sb_connection.specs.Traffic.{after_write};
@@ -55,6 +55,8 @@ pub(crate) struct ProtocolState<H: Hosting, D: Doorkeeper> {
     pub(crate) taken: usize,
     pub(crate) output: Vec<u8>,
     pub(crate) sent: usize,
+    /// So many bytes of the output end with the last reply that binds.
+    pub(crate) bound: usize,
     /// The bytes of each read.
     pub(crate) reads: Log<Vec<u8>, ()>,
     /// Each write: the output, how much of it was sent before, and how much was sent.
@@ -71,7 +73,7 @@ struct Before {
 }
 
 impl<H: Hosting, D: Doorkeeper> Model for ProtocolState<H, D> {
-    ghost use Rattle.std.specs.Prelude.{◌≡◌, ◌≤◌, ◌&&◌, false, not, [], flat_map, is_some, map, take, drop, vec_len};
+    ghost use Rattle.std.specs.Prelude.{◌≡◌, ◌≤◌, ◌-◌, ◌&&◌, false, not, [], flat_map, is_some, map, take, drop, vec_len};
     ghost use Rattle.std.specs.Option.{option_map_or};
     ghost use Rattle.sb_connection.specs.Conversation.{hosting_by};
     ghost use Rattle.sb_connection.specs.ProtocolState.{Talking};
@@ -91,13 +93,15 @@ impl<H: Hosting, D: Doorkeeper> Model for ProtocolState<H, D> {
         waiting = drop m.taken m.input.items;
         handed = flat_map (λ w. take w.1.1 (drop w.1.0 w.0.items)) m.writes.items;
         pending = drop m.sent m.output.items;
+        binding = m.bound - m.sent;
       };
       opened = m.lines;
       caller = m.session;
       away = m.away;
     } };
 
-    ghost invariant = { λ m. (m.taken ≤ vec_len m.input) × (m.sent ≤ vec_len m.output) × (m.keyed ≡ D.policy.keyed) };
+    ghost invariant = { λ m. (m.taken ≤ vec_len m.input) × (m.sent ≤ vec_len m.output) × (m.keyed ≡ D.policy.keyed)
+        × (m.bound ≤ vec_len m.output) };
 }
 
 impl<H: Hosting, D: Doorkeeper> ProtocolState<H, D> {
@@ -122,6 +126,7 @@ impl<H: Hosting, D: Doorkeeper> ProtocolState<H, D> {
             taken: 0,
             output: Vec::new(alloc),
             sent: 0,
+            bound: 0,
             reads: Log::new(),
             writes: Log::new(),
         }
@@ -314,6 +319,7 @@ impl<H: Hosting, D: Doorkeeper> ProtocolState<H, D> {
         );
         let is_over = talk.is_over(&self.session, &self.away);
         self.state = state_after(answered, is_over);
+        self.bound = bound_after(self.has_transaction(), self.bound, self.output.len());
     }
 
     /// Answers the incomplete line at the end, if it has a byte.
@@ -444,6 +450,13 @@ impl<H: Hosting, D: Doorkeeper> ProtocolState<H, D> {
         &self.output.as_slice()[self.sent..]
     }
 
+    /// How many of them bind.
+    pub(crate) fn binding(&self) -> usize
+        ensures { result ≡ self.now.history.binding }
+    {
+        self.bound.saturating_sub(self.sent)
+    }
+
     /// What came and isn't looked at yet.
     pub(crate) fn waiting(&self) -> &[u8]
         ensures { result.now ≡ self.now.history.waiting }
@@ -475,8 +488,16 @@ impl<H: Hosting, D: Doorkeeper> ProtocolState<H, D> {
         if self.sent == self.output.len() {
             self.output = Vec::new(self.alloc);
             self.sent = 0;
+            self.bound = 0;
         }
     }
+}
+
+/// How many bytes of an output of this length bind behind a reply.
+fn bound_after(has_transaction: bool, bound: usize, length: usize) -> usize
+    ensures { result ≡ binding_after has_transaction bound length }
+{
+    if has_transaction { bound } else { length }
 }
 
 /// The state behind a reply, which may have lacked memory.

@@ -147,16 +147,19 @@ impl<H: Hosting, S: Stream + Drop, D: Doorkeeper> ClientConnection<H, S, D> {
         self.hung_up && matches!(self.came, Came::Bytes { .. }) && self.connection.wants_read()
     }
 
-    /// The tenant whose replies wait to be sent, if there are any.
-    pub(crate) fn answered(&self) -> Option<u32>
-        ensures some { 0 < length self.now.connection.pending → result ≡ self.now.tenant }
-        ensures none { self.now.connection.pending ≡ [] → result ≡ None }
+    /// True if a reply that is to be sent binds.
+    pub(crate) fn binds(&self) -> bool
+        ensures { IsTrue result ↔ (0 < self.now.connection.binding) }
     {
-        if self.connection.wants_write() {
-            self.tenant
-        } else {
-            None
-        }
+        self.connection.binds()
+    }
+
+    /// The tenant whose answers are kept before the replies are sent, if one of these binds.
+    pub(crate) fn answered(&self) -> Option<u32>
+        ensures some { 0 < self.now.connection.binding → result ≡ self.now.tenant }
+        ensures none { self.now.connection.binding ≡ 0 → result ≡ None }
+    {
+        if self.binds() { self.tenant } else { None }
     }
 
     /// Answers what came.

@@ -28,7 +28,7 @@ impl<'s, H: Hosting, V: Watch, D: Doorkeeper, K: CommitHook, E: Renewals, C: Clo
     C,
 > {
     /// Gives the queued connections their turns, as far as the time of a round goes. With a commit hook a round has three
-    /// parts: all lines are answered, all answers are committed at once, and then the replies are sent.
+    /// parts: all lines are answered, all answers that bind are committed at once, and then their replies are sent.
     pub(crate) fn serve_due<T: Wait>(&mut self, rt: &T)
         ensures gains { GainsClosed D.policy self.old.stubs.items self.new.stubs.items }
         ensures sessions { KeepsSessions self.old.client_connections self.new.client_connections (λ v. v.value.connection.attached) self.old.stubs.items self.new.stubs.items }
@@ -168,14 +168,29 @@ impl<'s, H: Hosting, V: Watch, D: Doorkeeper, K: CommitHook, E: Renewals, C: Clo
         }
     }
 
-    /// The first part of a connection's turn. Without a commit hook it is the whole turn.
+    /// The first part of a connection's turn. It is the whole turn where nothing has to be kept before it is sent.
     fn begin_turn<T: Wait>(&mut self, rt: &T, key: usize)
         ensures gains { GainsClosed D.policy self.old.stubs.items self.new.stubs.items }
         ensures sessions { KeepsSessions self.old.client_connections self.new.client_connections (λ v. v.value.connection.attached) self.old.stubs.items self.new.stubs.items }
     {
         self.take_in(rt, key);
+        if self.must_keep(key) {
+            return;
+        }
+        self.give_out(rt, key);
+    }
+
+    /// True if answers are kept before replies of this connection are sent.
+    fn must_keep(&self, key: usize) -> bool
+        ensures { IsFalse result → (self.now.answered.items ≡ [])
+            ⊎ IfSome (get self.now.client_connections key) (λ v. v.value.connection.binding ≡ 0) }
+    {
         if !self.serving.commit_hook.is_set() {
-            self.give_out(rt, key);
+            return false;
+        }
+        match self.client_connections.get(key) {
+            Some(client_connection) => client_connection.binds(),
+            None => false,
         }
     }
 
@@ -240,10 +255,11 @@ impl<'s, H: Hosting, V: Watch, D: Doorkeeper, K: CommitHook, E: Renewals, C: Clo
         }
     }
 
-    /// Sends the replies of a connection, all of which are committed.
+    /// Sends the replies of a connection. All that bind are committed.
     fn give_out<T: Wait>(&mut self, rt: &T, key: usize)
-        requires { self.old.answered.items ≡ [] }
-        ensures answered { self.new.answered.items ≡ [] }
+        requires { (self.old.answered.items ≡ [])
+            ⊎ IfSome (get self.old.client_connections key) (λ v. v.value.connection.binding ≡ 0) }
+        ensures answered { self.new.answered.items ≡ self.old.answered.items }
         ensures gains { GainsClosed D.policy self.old.stubs.items self.new.stubs.items }
         ensures sessions { KeepsSessions self.old.client_connections self.new.client_connections (λ v. v.value.connection.attached) self.old.stubs.items self.new.stubs.items }
     {

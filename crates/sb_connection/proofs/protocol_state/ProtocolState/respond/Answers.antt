@@ -1,5 +1,6 @@
 use Rattle.std.proofs.Common.{subst, rules, arith, Bool, drop}
 use Rattle.sb_connection.specs.ProtocolState.{Adds}
+use Rattle.sb_connection.proofs.Binding.{bound_by}
 use Rattle.sb_connection.proofs.Steps.{adds_by}
 use Rattle.sb_connection.proofs.protocol_state.ProtocolState.respond.Goals as goal
 
@@ -16,6 +17,7 @@ returns-clause-answers g c =
       text = said.0;
       responds = search rules;
       adds = added;
+      binds = bound_by _ inside.bound inside.sent _ out.items (search rules);
       attached = search rules;
       stays_are = search rules;
       waits_are = search rules;
