@@ -6,7 +6,8 @@
    SHORT=1     a write fails by taking half of its bytes
    KILLED=5    the program is killed in place of the fifth call
    ONLY=fsync  only calls of this name are counted
-   NOTED=FILE  each call that is counted is told there, as a line: its name, and when it came, in seconds
+   NOTED=FILE  each call that is counted is told there, as a line: its name, and when it came, in seconds; so is each
+               write to a socket, as "sent", which isn't counted
 
    Counted are writes to regular files, syncs of them, renames, and changes of a file's length. When the program ends, a
    last line on standard error says how many there were. */
@@ -19,6 +20,7 @@
 #include <stdio.h>
 #include <stdlib.h>
 #include <string.h>
+#include <sys/socket.h>
 #include <sys/stat.h>
 #include <sys/types.h>
 #include <time.h>
@@ -80,8 +82,21 @@ static int fails(const char *name) {
     return wanted != 0 && wanted <= count && count <= until;
 }
 
+static void note_socket(int descriptor) {
+    struct stat found;
+    if (noted >= 0 && fstat(descriptor, &found) == 0 && S_ISSOCK(found.st_mode))
+        note("sent");
+}
+
+ssize_t send(int descriptor, const void *bytes, size_t count, int flags) {
+    ssize_t (*real)(int, const void *, size_t, int) = next("send");
+    note_socket(descriptor);
+    return real(descriptor, bytes, count, flags);
+}
+
 ssize_t write(int descriptor, const void *bytes, size_t count) {
     ssize_t (*real)(int, const void *, size_t) = next("write");
+    note_socket(descriptor);
     if (is_file(descriptor) && fails("write")) {
         if (is_short && count > 1)
             return real(descriptor, bytes, count / 2);

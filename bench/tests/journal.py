@@ -348,20 +348,39 @@ def tells_fault(log):
     return any("journal: " in line and "are played" not in line for line in log.splitlines())
 
 
+def replies_in(noted):
+    """Of each write to a socket the calls on the journal since the one before."""
+    with open(noted) as file:
+        calls = [line.split()[0] for line in file if not line.startswith("write ")]
+    replies, since = [], []
+    for call in calls:
+        if call == "sent":
+            replies.append(since)
+            since = []
+        else:
+            since.append(call)
+    return replies
+
+
 def syncs_by_commits(program, room, refuses):
-    """Only what binds waits for the disk: over one connection a transaction of four lines is two syncs, those of its commit."""
+    """Only what binds waits for the disk: over one connection a transaction of four lines is two syncs, both before the reply to
+    its commit is sent, and its other replies are sent without one."""
     noted = os.path.join(room, "commits")
     server = journaled(program, os.path.join(room, "committed"), preloaded=refuses, NOTED=noted)
     Client(server, 0, 0, ["create table t (a int)"]).run()
-    before = len(syncs_in(noted)[0])
-    client = Client(server, 0, 1, ["begin", "insert into t values (1)", "select * from t", "commit"] * 20)
+    before = len(replies_in(noted))
+    lines = ["begin", "insert into t values (1)", "select * from t", "commit"] * 20
+    client = Client(server, 0, 1, lines)
     client.run()
     need(len(client.answered) == 81 and client.bound == 81, f"transactions: {client.answered[-3:]}")
-    syncs = len(syncs_in(noted)[0]) - before
+    replies = replies_in(noted)[before:]
+    need(len(replies) == 81, f"81 replies in {len(replies)} writes")
     # its session's `open` binds, too
-    need(syncs <= 42, f"{syncs} syncs for 20 transactions")
+    for line, calls in zip(["open", *lines], replies):
+        wanted = ["pwrite", "fdatasync", "pwrite", "fdatasync"] if line in ("open", "commit") else []
+        need(calls == wanted, f"before the reply to {line}: {calls}")
     need(server.end()[0] == 0, "a server whose commits wait")
-    return syncs
+    return 2 * 20
 
 
 def feels_late_sync(program, room, refuses):
