@@ -82,4 +82,4 @@ IsBlocked t = (earlier : List Call) × (last : Call) × (t.writes ≡ earlier ++
 -- nothing is lost of what was to be sent, and nothing else changes
 abbrev pub SendsSome : History → History → Type 0
 SendsSome old new =
-    (new ≡ record old { handed = new.handed; pending = new.pending }) × (new.handed ++ new.pending ≡ old.handed ++ old.pending)
+    (new ≡ record old { handed = new.handed; pending = new.pending; binding = new.binding }) × (new.handed ++ new.pending ≡ old.handed ++ old.pending)
