@@ -1,12 +1,14 @@
 -- Each text has its pieces, and no others.
 use Rattle.std.proofs.Common.{◌≡◌, ◌≤◌, ◌<◌, ◌+◌, ℕ, zero, suc, List, [], ◌∷◌, ◌++◌, length, drop, take, Option, Some, None, Result, Ok, Err, refl, ap, sym, ◌∙◌, subst, drop_at, take_at, length-append, arith}
 use Rattle.std.proofs.lemmas.List.{take-append-drop, length-take-le, length-drop}
+use Rattle.sb_postgres.specs.declared.query.actions.Scope.TheVariants.{Outside}
 use Rattle.sb_postgres.specs.declared.query.error.Fault.{Fault}
 use Rattle.sb_postgres.specs.declared.query.error.QueryError.{QueryError}
 use Rattle.sb_postgres.specs.declared.query.error.QueryError.TheVariants as errors
 use Rattle.sb_postgres.specs.declared.query.error.Refusal.{Refusal}
 use Rattle.sb_postgres.specs.declared.query.statement.Statement.{Statement}
 use Rattle.sb_postgres.specs.declared.query.statements.Statements.{Statements}
+use Rattle.sb_postgres.specs.Actions.{scoped}
 use Rattle.sb_postgres.specs.Drafts.{drafted_lines, nothing}
 use Rattle.sb_postgres.specs.Lines.{Lines, end, line, ending}
 use Rattle.sb_postgres.specs.Pieces as p
@@ -16,7 +18,7 @@ use Rattle.sb_postgres.specs.Statements.{HasLines, IsNext, EndsAs}
 use Rattle.sb_postgres.specs.Scan.{Found, piece_at, pieces}
 use Rattle.sb_postgres.proofs.Found.{Sound, piece-sound}
 use Rattle.sb_postgres.proofs.Again.{piece-again, piece-some, fault-again}
-use Rattle.sb_postgres.proofs.Marks.{lines-drafted}
+use Rattle.sb_postgres.proofs.Marks.{lines-drafted, pieces-some, scoped-some}
 use Rattle.sb_postgres.proofs.Turns.{pieces-end, pieces-fault, pieces-found, lines-end}
 
 found-to : (n at : ℕ) (text : List ℕ) → length text ≤ n → HasPieces at text (pieces 0 at text)
@@ -60,10 +62,11 @@ pieces-only at text ps (p.first {kind = kind} {bytes = bytes} {rest = rest} {mor
 pub lines-are : (at : ℕ) (text : List ℕ) → HasLines at text (lines_from at text)
 lines-are at text =
     let has = pieces-are at (drop at text) in
-    (pieces 0 at (drop at text), (has, sym (lines-drafted at (drop at text) (pieces 0 at (drop at text)) has [] (omega arith))))
+    (pieces 0 at (drop at text), (has, sym (lines-drafted (scoped Outside (pieces 0 at (drop at text))) (scoped-some Outside (pieces 0 at (drop at text)) (pieces-some at (drop at text) (pieces 0 at (drop at text)) has)) [] (omega arith))))
 
 pub lines-only : (at : ℕ) (text : List ℕ) (ls : Lines) → HasLines at text ls → ls ≡ lines_from at text
-lines-only at text ls h = h.1.1 ∙ (lines-drafted at (drop at text) h.0 h.1.0 [] (omega arith) ∙ ap (drafted_lines nothing) (pieces-only at (drop at text) h.0 h.1.0))
+lines-only at text ls h =
+    h.1.1 ∙ (lines-drafted (scoped Outside h.0) (scoped-some Outside h.0 (pieces-some at (drop at text) h.0 h.1.0)) [] (omega arith) ∙ ap (λ ps. drafted_lines nothing (scoped Outside ps)) (pieces-only at (drop at text) h.0 h.1.0))
 
 pub lines-same : (at : ℕ) (text : List ℕ) (ls ms : Lines) → HasLines at text ls → HasLines at text ms → ls ≡ ms
 lines-same at text ls ms h g = lines-only at text ls h ∙ sym (lines-only at text ms g)
@@ -88,4 +91,4 @@ pub ends_as : (at : ℕ) (text : List ℕ) (r : Result (Unit {0}) QueryError) (l
 ends_as at text r ls e h = subst (λ (ms : Lines). EndsAs ms r) (sym (lines-only at text ls h)) e
 
 pub ends_at_all : (at : ℕ) (text : List ℕ) (whole : Option Refusal) → length text ≤ at → ending (lines_from at text) ≡ whole → whole ≡ None
-ends_at_all at text whole l so_far = sym so_far ∙ ap ending (lines-end text at nothing l)
+ends_at_all at text whole l so_far = sym so_far ∙ ap ending (lines-end text Outside at nothing l)

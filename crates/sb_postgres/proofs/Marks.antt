@@ -2,10 +2,12 @@
 use Rattle.std.proofs.Common.{◌≡◌, ◌≤◌, ◌<◌, ◌+◌, ◌-◌, ◌==◌, ℕ, Bool, true, false, cond, nat_le, List, [], ◌∷◌, ◌++◌, length, map, Option, Some, None, option_map, Result, Ok, Err, refl, ap, sym, ◌∙◌, subst, append_assoc, length-append, arith}
 use Rattle.std.proofs.lemmas.Bool.{ne_eqb, leb-true, le-leb, cond_both}
 use Rattle.std.proofs.lemmas.List.{append-nil, length-map}
+use Rattle.sb_postgres.specs.declared.query.actions.Scope.{Scope}
 use Rattle.sb_postgres.specs.declared.query.error.Fault.TheVariants as fault
 use Rattle.sb_postgres.specs.declared.query.error.Refusal.{Refusal}
 use Rattle.sb_postgres.specs.declared.query.piece.PieceKind.{PieceKind}
 use Rattle.sb_postgres.specs.declared.query.piece.PieceKind.TheVariants as k
+use Rattle.sb_postgres.specs.Actions.{scope_after, scoped}
 use Rattle.sb_postgres.specs.Drafts.{Drafted, nothing, places, first_gap, with_gap, spaced, with_bytes, limited, with_text, with_gap_behind, drafted_closed, drafted_by, drafted_lines}
 use Rattle.sb_postgres.specs.Pieces as p
 use Rattle.sb_postgres.specs.Pieces.{Pieces, HasPieces}
@@ -187,9 +189,25 @@ step k.Parameter at bytes more l ih ms short = text-same k.Parameter at bytes ms
 step k.Word at bytes more l ih ms short = text-same k.Word at bytes ms (lines_of (ms ++ marks k.Word at bytes) more) (λ e. drafted_lines e more) (unprintable at bytes) l (ih (ms ++ marks k.Word at bytes))
 step k.Byte at bytes more l ih ms short = text-same k.Byte at bytes ms (lines_of (ms ++ marks k.Byte at bytes) more) (λ e. drafted_lines e more) (unprintable at bytes) l (ih (ms ++ marks k.Byte at bytes))
 
-pub lines-drafted : (at : ℕ) (text : List ℕ) (ps : Pieces) → HasPieces at text ps → (ms : List Mark) → length (puts ms nothing).bytes ≤ 4_096 → lines_of ms ps ≡ drafted_lines (puts ms nothing) ps
+-- each piece has a byte
+abbrev pub AreSome : Pieces → Type 0
+AreSome p.end = Unit {0}
+AreSome (p.refused f at) = Unit {0}
+AreSome (p.piece kind at bytes more) = (0 < length bytes) × AreSome more
+
+pub pieces-some : (at : ℕ) (text : List ℕ) (ps : Pieces) → HasPieces at text ps → AreSome ps
+pieces-some at text ps p.end_of_text = tt
+pieces-some at text ps (p.no_piece h) = tt
+pieces-some at text ps (p.first {kind = kind} {bytes = bytes} {rest = rest} {more = more} h is m) = (piece-some kind bytes rest h, pieces-some (at + length bytes) rest more m)
+
+pub scoped-some : (scope : Scope) (ps : Pieces) → AreSome ps → AreSome (scoped scope ps)
+unfolding scoped
+scoped-some scope p.end h = tt
+scoped-some scope (p.refused f at) h = tt
+scoped-some scope (p.piece kind at bytes more) h = (h.0, scoped-some (scope_after scope kind bytes) more h.1)
+
+pub lines-drafted : (ps : Pieces) → AreSome ps → (ms : List Mark) → length (puts ms nothing).bytes ≤ 4_096 → lines_of ms ps ≡ drafted_lines (puts ms nothing) ps
 unfolding lines_of drafted_lines
-lines-drafted at text ps p.end_of_text ms short = closed-same ms end
-lines-drafted at text ps (p.no_piece h) ms short = refl
-lines-drafted at text ps (p.first {kind = kind} {bytes = bytes} {rest = rest} {more = more} h is m) ms short =
-    step kind at bytes more (piece-some kind bytes rest h) (lines-drafted (at + length bytes) rest more m) ms short
+lines-drafted p.end h ms short = closed-same ms end
+lines-drafted (p.refused f at) h ms short = refl
+lines-drafted (p.piece kind at bytes more) h ms short = step kind at bytes more h.0 (lines-drafted more h.1) ms short

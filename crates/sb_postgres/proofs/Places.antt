@@ -1,12 +1,15 @@
 -- Each byte of a draft stands in the text at its place.
 use Rattle.std.proofs.Common.{◌≡◌, ◌<◌, ◌+◌, ◌-◌, ◌==◌, ℕ, zero, suc, Bool, true, false, cond, nat_le, List, [], ◌∷◌, ◌++◌, length, map, drop, take, Option, Some, None, Result, Ok, Err, slice_get, IfSome, IsSomeAnd, refl, ap, sym, ◌∙◌, subst, inl, inr, append_assoc, length-append, arith}
-use Rattle.std.proofs.lemmas.Bool.{or_left, cond_both}
+use Rattle.std.proofs.lemmas.Bool.{or_left, cond_both, eqb-true}
 use Rattle.std.proofs.lemmas.List.{drop-drop, drop_at, take_at, take_rest, take-append-drop, length-drop}
+use Rattle.sb_postgres.specs.declared.query.actions.Scope.{Scope}
+use Rattle.sb_postgres.specs.declared.query.actions.Scope.TheVariants.{BehindThen, InActions}
 use Rattle.sb_postgres.specs.declared.query.error.Fault.TheVariants as fault
 use Rattle.sb_postgres.specs.declared.query.error.Refusal.{Refusal}
 use Rattle.sb_postgres.specs.declared.query.piece.PieceKind.{PieceKind}
 use Rattle.sb_postgres.specs.declared.query.piece.PieceKind.TheVariants as k
 use Rattle.sb_postgres.specs.Bytes.{is_blank}
+use Rattle.sb_postgres.specs.Actions.{is_byte, kind_in}
 use Rattle.sb_postgres.specs.Drafts.{Drafted, nothing, places, with_gap, first_gap, spaced, spaced_by, with_bytes, limited, with_text, with_gap_behind, with_name, with_piece}
 use Rattle.sb_postgres.specs.Lines.{refusal, shown, unprintable, inside, is_name}
 use Rattle.sb_postgres.specs.Origins.{is_gap, Shows, StandsAt, AreOrigins}
@@ -169,9 +172,36 @@ found-piece (b ∷ bs) kind len l e =
     let h : Sound (Ok (kind, len)) (b ∷ bs) = subst (λ (r : Found). Sound r (b ∷ bs)) e (piece-sound b bs) in
     h.0
 
-pub keeps : (text : List ℕ) (at : ℕ) (kind : PieceKind) (len : ℕ) (d e : Drafted) → at < length text → piece_at (take (length text - at) (drop at text)) ≡ Ok (kind, len)
-    → with_piece kind at (take len (take (length text - at) (drop at text))) d ≡ Ok e → Stands text d → Stands text e
-keeps text at kind len d e l found made h =
+-- what a piece is among actions
+one-byte : (c : ℕ) (bytes : List ℕ) → is_byte c bytes ≡ true → bytes ≡ c ∷ []
+one-byte c [] e = absurd cc
+one-byte c (b ∷ []) e = ap (λ x. x ∷ []) (eqb-true b c e)
+one-byte c (b ∷ d ∷ bs) e = absurd cc
+
+parenthesis : (c : ℕ) (text bytes rest : List ℕ) (at : ℕ) (d e : Drafted) → is_gap c ≡ true → bytes ≡ c ∷ [] → drop at text ≡ bytes ++ rest → with_piece k.Blank at bytes d ≡ Ok e → Stands text d → Stands text e
+parenthesis c text bytes rest at d e g one is made h =
+    subst (Stands text) (same_draft (with_gap at d) e made) (gapped text rest at c d (is ∙ ap (λ bs. bs ++ rest) one) g h)
+
+maybe-gap : (c : ℕ) (text bytes rest : List ℕ) (at : ℕ) (d e : Drafted) → is_gap c ≡ true → IsPiece k.Byte bytes rest → drop at text ≡ bytes ++ rest → with_piece (cond (is_byte c bytes) k.Blank k.Byte) at bytes d ≡ Ok e → Stands text d → Stands text e
+maybe-gap c text bytes rest at d e g piece is made h = go (is_byte c bytes) refl made
+  where
+    go : (b : Bool) → is_byte c bytes ≡ b → with_piece (cond b k.Blank k.Byte) at bytes d ≡ Ok e → Stands text e
+    go true t m = parenthesis c text bytes rest at d e g (one-byte c bytes t) is m h
+    go false t m = piece-stands k.Byte text bytes rest at d e piece is m h
+
+semicolon-stands : (text bytes rest : List ℕ) (at : ℕ) (d e : Drafted) → drop at text ≡ bytes ++ rest → with_piece k.Byte at bytes d ≡ Ok e → Stands text d → Stands text e
+semicolon-stands text bytes rest at d e is made h = text-stands k.Byte text bytes rest at d e (unprintable at bytes) is made h
+
+scoped-stands : (scope : Scope) (kind : PieceKind) (text bytes rest : List ℕ) (at : ℕ) (d e : Drafted) → IsPiece kind bytes rest → drop at text ≡ bytes ++ rest → with_piece (kind_in scope kind bytes) at bytes d ≡ Ok e → Stands text d → Stands text e
+scoped-stands BehindThen k.Byte text bytes rest at d e piece is made h = maybe-gap 40 text bytes rest at d e refl piece is made h
+scoped-stands (InActions zero) k.Byte text bytes rest at d e piece is made h = maybe-gap 41 text bytes rest at d e refl piece is made h
+scoped-stands (InActions zero) k.Semicolon text bytes rest at d e piece is made h = semicolon-stands text bytes rest at d e is made h
+scoped-stands (InActions (suc depth)) k.Semicolon text bytes rest at d e piece is made h = semicolon-stands text bytes rest at d e is made h
+scoped-stands scope kind text bytes rest at d e piece is made h = piece-stands kind text bytes rest at d e piece is made h
+
+pub keeps : (text : List ℕ) (scope : Scope) (at : ℕ) (kind : PieceKind) (len : ℕ) (d e : Drafted) → at < length text → piece_at (take (length text - at) (drop at text)) ≡ Ok (kind, len)
+    → with_piece (kind_in scope kind (take len (take (length text - at) (drop at text)))) at (take len (take (length text - at) (drop at text))) d ≡ Ok e → Stands text d → Stands text e
+keeps text scope at kind len d e l found made h =
     let some : 0 < length (take (length text - at) (drop at text)) = rw (take_rest text at) (omega (arith, length-drop at text)) in
-    piece-stands kind text (take len (take (length text - at) (drop at text))) (drop len (take (length text - at) (drop at text))) at d e
+    scoped-stands scope kind text (take len (take (length text - at) (drop at text))) (drop len (take (length text - at) (drop at text))) at d e
     (found-piece (take (length text - at) (drop at text)) kind len some found) (sym (take_rest text at) ∙ sym (take-append-drop len (take (length text - at) (drop at text)))) made h

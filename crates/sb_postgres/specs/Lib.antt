@@ -9,6 +9,8 @@ pub mod Answers
 pub mod Bytes
 pub mod Pieces
 pub mod Scan
+pub mod Actions
+pub mod Depths
 pub mod Lines
 pub mod Drafts
 pub mod Drafting
@@ -16,3 +18,7 @@ pub mod Origins
 pub mod Cutting
 pub mod Statements
 pub mod Kinds
+pub mod SqlStates
+pub mod Wordings
+pub mod Tags
+pub mod Settings

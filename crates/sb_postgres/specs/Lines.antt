@@ -105,7 +105,7 @@ abbrev pub lines_by : ℕ → Option Refusal → Line → Lines → Lines
 lines_by at (Some r) so_far more = refused r
 lines_by at None so_far more = if nat_le (length so_far) line_limit then more else refused (refusal fault.TooLong at)
 
--- each `;` ends a line; the marks are those of its pieces so far
+-- each `;` ends a line; the marks are those of its pieces so far, each as what it is where it stands
 unfoldable pub lines_of : List Mark → pieces.Pieces → Lines
 lines_of ms pieces.end = closed (joined ms) end
 lines_of ms (pieces.refused f at) = refused (refusal f at)

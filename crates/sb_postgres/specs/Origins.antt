@@ -2,9 +2,9 @@
 use Rattle.std.specs.Prelude.{◌≡◌, ◌⊎◌, ℕ, Bool, true, ◌||◌, ◌==◌, List, [], ◌∷◌, slice_get, IsSomeAnd}
 use Rattle.sb_postgres.specs.Bytes.{is_blank, folded}
 
--- a blank, the first byte of a comment, or the quote of a name
+-- a blank, the first byte of a comment, the quote of a name, or a parenthesis around actions
 abbrev pub is_gap : ℕ → Bool
-is_gap c = is_blank c || (c == 45 || (c == 47 || c == 34))
+is_gap c = is_blank c || (c == 45 || (c == 47 || (c == 34 || (c == 40 || c == 41))))
 
 -- a byte of the text is that of the line, or a capital of its small letter, or blanks for which the line has a space
 abbrev pub Shows : ℕ → ℕ → Type 0

@@ -4,12 +4,14 @@ use Rattle.sb_postgres.specs.declared.query.error.QueryError.{QueryError}
 use Rattle.sb_postgres.specs.declared.query.error.QueryError.TheVariants as errors
 use Rattle.sb_postgres.specs.declared.query.statement.Statement.{Statement}
 use Rattle.sb_postgres.specs.declared.query.statements.Statements.{Statements}
+use Rattle.sb_postgres.specs.declared.query.actions.Scope.TheVariants.{Outside}
+use Rattle.sb_postgres.specs.Actions.{scoped}
 use Rattle.sb_postgres.specs.Lines.{Lines, end, refused, line, lines_of, ending}
 use Rattle.sb_postgres.specs.Pieces.{Pieces, HasPieces}
 
 -- the text from a place on has these lines
 abbrev pub HasLines : ℕ → List ℕ → Lines → Type 0
-HasLines at text ls = (ps : Pieces) × (HasPieces at (drop at text) ps × (ls ≡ lines_of [] ps))
+HasLines at text ls = (ps : Pieces) × (HasPieces at (drop at text) ps × (ls ≡ lines_of [] (scoped Outside ps)))
 
 -- the text, the place from which statements are left, how many bytes are behind it, and the lines of those
 abbrev pub text_of : Statements → List ℕ

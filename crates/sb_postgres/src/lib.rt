@@ -11,6 +11,7 @@ pub mod query;
 mod reading;
 mod server_message;
 mod startup;
+pub mod told;
 mod writing;
 
 pub use client_message::{ClientMessage, Target};

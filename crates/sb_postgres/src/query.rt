@@ -1,4 +1,5 @@
 //! The text of a query as a client of PostgreSQL sends it, cut into statements.
+mod actions;
 mod bytes;
 mod draft;
 mod error;

@@ -5,6 +5,7 @@ ghost use Rattle.sb_postgres.specs.Origins.{AreOrigins};
 ghost use Rattle.sb_postgres.specs.Cutting.{IsFirst, lines_from};
 ghost use Rattle.sb_postgres.specs.Statements.{EndsAs};
 
+use crate::query::actions::Scope;
 use crate::query::draft::Draft;
 use crate::query::error::QueryError;
 use crate::query::piece::{PieceKind, first_piece};
@@ -24,10 +25,14 @@ pub(crate) fn statement_from(
     ensures within { IfOk result (λ o. IfSome o (λ s. (from < s.1) × (s.1 ≤ length text.now))) }
 {
     let mut draft = Draft::new(alloc);
+    let mut scope = Scope::Outside;
     let mut at = from;
     while at < text.len() {
         let rest = &text[at..];
-        let (kind, len) = first_piece(rest, at)?;
+        let (found, len) = first_piece(rest, at)?;
+        let bytes = &rest[..len];
+        let kind = scope.kind_in(found, bytes);
+        scope = scope.after(found, bytes);
         match kind {
             PieceKind::Semicolon => {
                 if !draft.is_empty() {
@@ -35,7 +40,7 @@ pub(crate) fn statement_from(
                 }
                 draft.clear();
             }
-            _ => draft.add(kind, at, &rest[..len])?,
+            _ => draft.add(kind, at, bytes)?,
         }
         at += len;
     }
