@@ -12,7 +12,7 @@ use std::alloc::{AllocError, Global};
 
 /// The line with the numbers of trails and steps.
 fn totals(alloc: Global, report: &Report) -> Result<Vec<u8>, AllocError>
-    ensures { IfOk result (λ line. line.items ≡ trails_line report.now.trails.items report.now.volumes.items) }
+    ensures { IfOk result (λ line. line.items ≡ trails_line report.now) }
 {
     let Some(steps) = report.steps_made() else {
         return Err(AllocError);
