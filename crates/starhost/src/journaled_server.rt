@@ -6,8 +6,10 @@ use crate::fault::ProgramFault;
 use crate::server_context::{Entrance, ServerContext};
 use crate::server_end::ServerEnd;
 use crate::system::System;
-use sb_durable::{Flusher, Head, JournalFault, open_recorder, tell_no_journal};
-use sb_host::Renewing;
+use sb_durable::{
+    File, Flusher, Head, JournalFault, Recorder, Wary, open_recorder, tell_no_journal,
+};
+use sb_host::{Renewing, Stub};
 use sb_monitor::{Chore, EventLog, JournalHook, Pages, StatusPort, SyncedChore};
 use sb_server::Admission;
 use sb_wire::Sink;
@@ -39,26 +41,41 @@ where
                 self.rt, self.alloc, self.host, path, syncs, head, self.log,
             ));
         });
-        let (recorder, stubs) = match opened {
+        let restarted = match opened {
             Some(Ok(restarted)) => restarted,
             Some(Err(why)) => return Err(ProgramFault::Journal(why)),
             None => return Err(ProgramFault::Journal(JournalFault::CannotOpen)),
         };
         let flusher = self.flusher_of(journal)?;
-        let recording = JournalHook::new(recorder, self.log, flusher.as_ref());
-        let synced = SyncedChore {
-            chore: gate.chore,
-            flusher: flusher.as_ref(),
-        };
-        let gate = Entrance {
-            admission: gate.admission,
-            chore: &synced,
-        };
-        let served = self.serve_with(gate, &recording, stubs, port, writer);
+        let served = self.serve_recorded(restarted, flusher.as_ref(), gate, port, writer);
         match &flusher {
             Some(flusher) if !flusher.flush() => Err(ProgramFault::Journal(JournalFault::Failed)),
             _ => served,
         }
+    }
+
+    /// Serves connections that this recorder records, behind the sessions that left these receipts.
+    fn serve_recorded<A: Admission + Sync, G: Chore, W: Sink>(
+        &self,
+        restarted: (Recorder<H, File<Wary>>, Vec<Stub>),
+        flusher: Option<&Flusher<'k, EventLog<'k, T>>>,
+        gate: Entrance<'_, '_, A, G>,
+        port: &Option<StatusPort<Pages<'_, H, A, T>>>,
+        writer: &mut W,
+    ) -> Result<ServerEnd, ProgramFault>
+        ensures { OnOk result (TellsPort (W.contents writer.old) (W.contents writer.new)) }
+    {
+        let (recorder, stubs) = restarted;
+        let recording = JournalHook::new(recorder, self.log, flusher);
+        let synced = SyncedChore {
+            chore: gate.chore,
+            flusher,
+        };
+        let entrance = Entrance {
+            admission: gate.admission,
+            chore: &synced,
+        };
+        self.serve_with(entrance, &recording, stubs, port, writer)
     }
 
     /// Syncs the journal once a second, if commits don't.

@@ -5,7 +5,7 @@ use Rattle.starhost.proofs.Sending.{recorder_sync}
 use Rattle.sb_durable.proofs.flusher.Flusher.TheSendSync as flusher
 use Rattle.sb_monitor.proofs.event_log.EventLog.TheSendSync as log
 use Rattle.sb_monitor.proofs.journal_hook.JournalHook.TheSendSync as recording
-use Rattle.starhost.proofs.server_context.ServerContext.record.Goals as goal
+use Rattle.starhost.proofs.server_context.ServerContext.serve_recorded.Goals as goal
 
 -- the threads share the recorder, the log and what syncs
 pub serve_with-requires-sync-K : goal.serve_with-requires-sync-K
