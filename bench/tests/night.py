@@ -113,10 +113,11 @@ def readies(program):
         words = ["--journal", os.path.join(folder, "journal"), "--sync", "never"]
         server = Server(program, *words)
         stream, file, reply = server.client("0 0")
-        run(file, f"{WIDE}\nbegin")
+        run(file, f"{WIDE}\ncreate table hit (a int)")
+        slow = f"begin\ninsert into hit {PAIRS.replace('*', 'x.a', 1)}5\ncommit"
         began, lines = time.monotonic(), 0
         while time.monotonic() < began + LONG / 2:
-            say(file, f"{PAIRS}-1")
+            run(file, slow)
             lines += 1
         stream.close()
         file.close()
@@ -131,7 +132,7 @@ def readies(program):
         expect("a server that plays a journal", seen[0], NOT_YET)
         expect("what is answered until it is ready", seen, seen.count(NOT_YET) * [NOT_YET] + seen.count(READY) * [READY])
         expect("its end", (started.returncode, ended.startswith("trails 16 steps ")), (0, True))
-    print(f"ready: 503 while {lines} slow lines of a journal are played, 200 behind them, and no question is lost between")
+    print(f"ready: 503 while {lines} slow commits of a journal are played, 200 behind them, and no question is lost between")
 
 
 def notices(program):
