@@ -1,5 +1,5 @@
 -- What no words ask for.
-use Rattle.std.proofs.Common.{◌≡◌, ◌≤◌, Bool, true, false, ◌&&◌, List, [], ◌∷◌, length, Option, Some, None, is_none, ap, sym, refl, arith}
+use Rattle.std.proofs.Common.{◌≡◌, ◌≤◌, Bool, true, ◌&&◌, List, [], ◌∷◌, length, Option, Some, None, is_none, ap, sym, refl, arith}
 use Rattle.std.proofs.lemmas.Bool.{false≢true}
 use Rattle.clap.proofs.OnLiterals.{clap_on_literals}
 use Rattle.clap.specs.Words.{Row, Text, matches_of}
@@ -9,7 +9,7 @@ use Rattle.sb_words.specs.Words.{AskFor, starhost}
 use Rattle.sb_words.specs.declared.argument.Argument.{Argument}
 use Rattle.sb_words.specs.declared.argument.Verb.TheVariants as verb
 use Rattle.sb_words.specs.Requests.{fresh, run}
-use Rattle.sb_words.proofs.Fitting.{all_allowed}
+use Rattle.sb_words.proofs.Fitting.{all_allowed, both}
 
 -- none of these parts is given
 abbrev none_given : List Row → List Argument → Bool
@@ -20,10 +20,6 @@ ungiven : {X : Type 0} (text : Option Text) (t : Text) → is_none text ≡ true
 ungiven None t none (is, x) = absurd (false≢true (ap is_none (sym is)))
 ungiven (Some s) t none (is, x) = absurd (false≢true none)
 
-both : (a b : Bool) → (a && b) ≡ true → (a ≡ true) × (b ≡ true)
-both true b h = (refl, h)
-both false b h = absurd (false≢true h)
-
 all_fit : (rows : List Row) (ps : List Argument) → none_given rows ps ≡ true → AllFit rows ps
 all_fit rows [] none = tt
 all_fit rows (p ∷ ps) none = let each = both (is_none (text_at rows p)) (none_given rows ps) none in
@@ -31,6 +27,8 @@ all_fit rows (p ∷ ps) none = let each = both (is_none (text_at rows p)) (none_
 
 pub no_word : (words : List Text) → length words ≤ 1 → AskFor words (run (record { tenants = 16; bound = 1000 }) fresh)
 unfolding clap_on_literals
-no_word [] few = let rows = matches_of starhost [] in (refl, (all_allowed rows (all_fit rows parts refl), (verb.Run, refl, refl)))
-no_word (w ∷ []) few = let rows = matches_of starhost (w ∷ []) in (refl, (all_allowed rows (all_fit rows parts refl), (verb.Run, refl, refl)))
+no_word [] few = let rows = matches_of starhost [] in
+    (refl, (verb.Run, rows, (tt, refl), (all_allowed rows (all_fit rows parts refl), refl)))
+no_word (w ∷ []) few = let rows = matches_of starhost (w ∷ []) in
+    (refl, (verb.Run, rows, (tt, refl), (all_allowed rows (all_fit rows parts refl), refl)))
 no_word (w ∷ v ∷ rest) few = absurd (omega arith)

@@ -1,32 +1,48 @@
--- Promise: the parts of a command line: their names, the commands that have them, and the ranges of numbers.
-use Rattle.std.specs.Prelude.{◌==◌, ℕ, Bool, true, not, ◌||◌, List, [], ◌∷◌, Option, Some, None, codes}
+-- Promise: the commands of a command line, their parts, and the ranges of numbers.
+use Rattle.std.specs.Prelude.{ℕ, List, [], ◌∷◌, Option, Some, None, codes, map}
 use Rattle.clap.specs.Words.{Text}
 use Rattle.sb_words.specs.Meanings.{meaning_of}
 use Rattle.sb_words.specs.declared.argument.Argument.{Argument}
-use Rattle.sb_words.specs.declared.argument.Argument.TheVariants.{Command, Old, New, Tenant, Load, DumpTo, Into, Journal, Sync, Keys, Status, Tenants, Bound, Cells, Workers, Port, Connections, Idle, IdleTransaction, FirstTenant, TenantMemory, Log, Slow, Renew, UntilInputEnds}
+use Rattle.sb_words.specs.declared.argument.Argument.TheVariants.{Old, New, Tenant, Load, DumpTo, Into, Journal, Sync, Keys, Status, Tenants, Bound, Cells, Workers, Port, Connections, Idle, IdleTransaction, FirstTenant, TenantMemory, Log, Slow, Renew, UntilInputEnds}
 use Rattle.sb_words.specs.declared.argument.NumberRange.{NumberRange}
 use Rattle.sb_words.specs.declared.argument.Verb.{Verb}
 use Rattle.sb_words.specs.declared.argument.Verb.TheVariants.{Run, Serve, Replay, Parse, Dump, Compact, Key}
 
+-- a command's word
+abbrev pub word_of : Verb → Text
+word_of Run = codes "run"
+word_of Serve = codes "serve"
+word_of Replay = codes "replay"
+word_of Parse = codes "parse"
+word_of Dump = codes "dump"
+word_of Compact = codes "compact"
+word_of Key = codes "key"
+
+abbrev pub verbs : List Verb
+verbs = Run ∷ Serve ∷ Replay ∷ Parse ∷ Dump ∷ Compact ∷ Key ∷ []
+
 -- the command of a word
 abbrev pub verb_of : Text → Option Verb
-verb_of word = meaning_of word (
-    (codes "run", Run) ∷ (codes "serve", Serve) ∷ (codes "replay", Replay) ∷ (codes "parse", Parse) ∷ (codes "dump", Dump) ∷ (codes "compact", Compact)
-    ∷ (codes "key", Key) ∷ []
-    )
+verb_of word = meaning_of word (map (λ v. (word_of v, v)) verbs)
 
--- no word is `run`
-abbrev pub verb_in : Option Text → Option Verb
-verb_in None = Some Run
-verb_in (Some word) = verb_of word
-
--- the command first, files behind it, then options in the order in which they are looked at
+-- files first, then options, in the order in which they are looked at
 abbrev pub parts : List Argument
-parts = Command ∷ Old ∷ New ∷ Tenant ∷ Load ∷ DumpTo ∷ Into ∷ Journal ∷ Sync ∷ Keys ∷ Status ∷ Tenants ∷ Bound ∷ Cells ∷ Workers ∷ Port ∷ Connections ∷ Idle ∷ IdleTransaction ∷ FirstTenant
-    ∷ TenantMemory ∷ Log ∷ Slow ∷ Renew ∷ UntilInputEnds ∷ []
+parts = Old ∷ New ∷ Tenants ∷ Bound ∷ Tenant ∷ Into ∷ Cells ∷ Workers ∷ Port ∷ Connections ∷ Idle ∷ IdleTransaction ∷ FirstTenant ∷ TenantMemory ∷ Load ∷ DumpTo
+    ∷ Journal ∷ Sync ∷ Renew ∷ Keys ∷ Status ∷ Log ∷ Slow ∷ UntilInputEnds ∷ []
+
+-- the parts that a command has
+abbrev pub parts_of : Verb → List Argument
+parts_of Run = Tenants ∷ Bound ∷ Load ∷ Journal ∷ Sync ∷ []
+parts_of Serve =
+    Tenants ∷ Bound ∷ Cells ∷ Workers ∷ Port ∷ Connections ∷ Idle ∷ IdleTransaction ∷ FirstTenant ∷ TenantMemory ∷ Load ∷ DumpTo ∷ Journal ∷ Sync ∷ Renew ∷ Keys
+    ∷ Status ∷ Log ∷ Slow ∷ UntilInputEnds ∷ []
+parts_of Replay = Tenants ∷ Bound ∷ Cells ∷ Workers ∷ []
+parts_of Parse = []
+parts_of Dump = Tenants ∷ Bound ∷ Tenant ∷ Into ∷ []
+parts_of Compact = Old ∷ New ∷ Tenants ∷ Bound ∷ []
+parts_of Key = []
 
 abbrev pub name_of : Argument → Text
-name_of Command = codes "command"
 name_of Old = codes "old"
 name_of New = codes "new"
 name_of Tenant = codes "tenant"
@@ -51,36 +67,6 @@ name_of Log = codes "log"
 name_of Slow = codes "slow"
 name_of Renew = codes "renew"
 name_of UntilInputEnds = codes "until-input-ends"
-
--- the place of a command among all
-abbrev pub place_of : Verb → ℕ
-place_of Run = 0
-place_of Serve = 1
-place_of Replay = 2
-place_of Parse = 3
-place_of Dump = 4
-place_of Compact = 5
-place_of Key = 6
-
--- whether two commands are the same
-abbrev pub same : Verb → Verb → Bool
-same one other = place_of one == place_of other
-
--- whether a command has the part; what isn't named is a server's
-abbrev pub has : Argument → Verb → Bool
-has Command verb = true
-has Old verb = same verb Compact
-has New verb = same verb Compact
-has Tenants verb = not (same verb Parse || same verb Key)
-has Bound verb = not (same verb Parse || same verb Key)
-has Tenant verb = same verb Dump
-has Into verb = same verb Dump
-has Load verb = same verb Run || same verb Serve
-has Journal verb = same verb Run || same verb Serve
-has Sync verb = same verb Run || same verb Serve
-has Cells verb = same verb Serve || same verb Replay
-has Workers verb = same verb Serve || same verb Replay
-has option verb = same verb Serve
 
 -- the numbers from the least to the most, and the usual one
 abbrev pub range : ℕ → ℕ → ℕ → Option NumberRange

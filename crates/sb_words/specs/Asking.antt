@@ -1,8 +1,8 @@
--- Promise: what the parts of a command line ask for, and which of them isn't allowed.
-use Rattle.std.specs.Prelude.{◌≡◌, ◌≢◌, ◌≤◌, ◌⊎◌, ◌||◌, ⊤, ℕ, Bool, false, if◌then◌else◌, bytes_eq, List, [], ◌∷◌, Option, Some, None, option_map, is_some, unwrap_or, codes}
+-- Promise: what the parts of a command ask for, and which of them isn't allowed.
+use Rattle.std.specs.Prelude.{◌≡◌, ◌≢◌, ◌≤◌, ◌⊎◌, ⊤, ℕ, if◌then◌else◌, bytes_eq, List, [], ◌∷◌, Option, Some, None, option_map, is_some, unwrap_or, codes}
 use Rattle.std.specs.Str.Parse.{IsNumeral, digits_value, without_leading_plus}
 use Rattle.clap.specs.Words.{Row, Text, first_of}
-use Rattle.sb_words.specs.Arguments.{has, name_of, parts, range_of, verb_in, verb_of}
+use Rattle.sb_words.specs.Arguments.{name_of, parts, range_of}
 use Rattle.sb_words.specs.RenewPolicies.{renew_policy_of, usual_policy}
 use Rattle.sb_words.specs.Requests.{Beginning, Request, fresh, folder, journal}
 use Rattle.sb_words.specs.Requests as request
@@ -55,15 +55,8 @@ abbrev pub LacksNumber : Option NumberRange → Text → Type 0
 LacksNumber None text = ⊥
 LacksNumber (Some range) text = IsNumber range text → ⊥
 
--- there is no such command, or it lacks one of its files
-abbrev pub LacksCommand : List Row → Option Verb → Type 0
-LacksCommand rows None = ⊤
-LacksCommand rows (Some verb.Compact) = (text_at rows part.Old ≡ None) ⊎ (text_at rows part.New ≡ None)
-LacksCommand rows (Some v) = ⊥
-
 -- there is no such word, or it doesn't go with what else is given: one tenant with all, files with a journal, a sync without one
 abbrev pub LacksWord : List Row → Argument → Text → Type 0
-LacksWord rows part.Command word = LacksCommand rows (verb_of word)
 LacksWord rows part.Log word = severity_of word ≡ None
 LacksWord rows part.Renew word = renew_policy_of word ≡ None
 LacksWord rows part.Into path = text_at rows part.Tenant ≢ None
@@ -75,13 +68,9 @@ LacksWord rows p text = ⊥
 abbrev pub IsWrong : List Row → Argument → Text → Type 0
 IsWrong rows p text = LacksNumber (range_of p) text ⊎ LacksWord rows p text
 
--- the command doesn't have the part
-abbrev pub IsForeign : List Row → Argument → Type 0
-IsForeign rows p = (v : Verb) × (verb_in (text_at rows part.Command) ≡ Some v) × (has p v ≡ false)
-
 -- it is given, and isn't allowed
 abbrev pub IsUnfit : List Row → Argument → Text → Type 0
-IsUnfit rows p text = (text_at rows p ≡ Some text) × (IsForeign rows p ⊎ IsWrong rows p text)
+IsUnfit rows p text = (text_at rows p ≡ Some text) × IsWrong rows p text
 
 abbrev pub Fits : List Row → Argument → Type 0
 Fits rows p = (text : Text) → IsUnfit rows p text → ⊥
@@ -179,5 +168,17 @@ asked_by verb.Compact rows = request.compact (run_in rows) (path_in rows part.Ol
 asked_by verb.Key rows = request.key
 
 -- all parts are allowed, and it is what the command asks for
-abbrev pub AsksBy : List Row → Request → Type 0
-AsksBy rows r = AreAllowed rows × ((v : Verb) × (verb_in (text_at rows part.Command) ≡ Some v) × (r ≡ asked_by v rows))
+abbrev pub AsksBy : Verb → List Row → Request → Type 0
+AsksBy v rows r = AreAllowed rows × (r ≡ asked_by v rows)
+
+-- ---- options in front of a command
+
+-- of these parts none is given
+abbrev pub NoneGiven : List Row → List Argument → Type 0
+NoneGiven rows [] = ⊤
+NoneGiven rows (p ∷ ps) = (text_at rows p ≡ None) × NoneGiven rows ps
+
+-- of these parts it is the first that is given
+abbrev pub IsFirstGiven : List Row → Unfit → List Argument → Type 0
+IsFirstGiven rows u [] = ⊥
+IsFirstGiven rows u (p ∷ ps) = ((text_at rows p ≡ Some u.text.now) × (u.part ≡ p)) ⊎ ((text_at rows p ≡ None) × IsFirstGiven rows u ps)

@@ -1,4 +1,4 @@
-//! The parts of a command line: its command, and options.
+//! The commands of a command line, and their parts.
 ghost use Rattle.std.specs.Prelude.{◌≡◌, ◌≤◌, IfSome};
 ghost use Rattle.sb_words.specs.Arguments as spec;
 
@@ -14,10 +14,9 @@ pub enum Verb {
     Key,
 }
 
-/// A part of a command line: the command, a file behind it, or an option.
+/// A part of a command: a file behind it, or an option.
 #[derive(Clone, Copy, Debug)]
 pub enum Argument {
-    Command,
     Old,
     New,
     Tenant,
@@ -44,19 +43,56 @@ pub enum Argument {
     UntilInputEnds,
 }
 
-/// The parts, in the order in which they are looked at.
-pub(crate) const PARTS: [Argument; 25] = [
-    Argument::Command,
+/// The commands, in the order in which help lists them.
+pub(crate) const COMMANDS: [Verb; 7] = [
+    Verb::Run,
+    Verb::Serve,
+    Verb::Replay,
+    Verb::Parse,
+    Verb::Dump,
+    Verb::Compact,
+    Verb::Key,
+];
+
+/// All parts, in the order in which they are looked at.
+pub(crate) const PARTS: [Argument; 24] = [
     Argument::Old,
     Argument::New,
+    Argument::Tenants,
+    Argument::Bound,
     Argument::Tenant,
+    Argument::Into,
+    Argument::Cells,
+    Argument::Workers,
+    Argument::Port,
+    Argument::Connections,
+    Argument::Idle,
+    Argument::IdleTransaction,
+    Argument::FirstTenant,
+    Argument::TenantMemory,
     Argument::Load,
     Argument::DumpTo,
-    Argument::Into,
     Argument::Journal,
     Argument::Sync,
+    Argument::Renew,
     Argument::Keys,
     Argument::Status,
+    Argument::Log,
+    Argument::Slow,
+    Argument::UntilInputEnds,
+];
+
+/// The parts of `run`, which needn't be named.
+pub(crate) const RUN_PARTS: [Argument; 5] = [
+    Argument::Tenants,
+    Argument::Bound,
+    Argument::Load,
+    Argument::Journal,
+    Argument::Sync,
+];
+
+/// The parts of `serve`.
+pub(crate) const SERVE_PARTS: [Argument; 20] = [
     Argument::Tenants,
     Argument::Bound,
     Argument::Cells,
@@ -67,10 +103,40 @@ pub(crate) const PARTS: [Argument; 25] = [
     Argument::IdleTransaction,
     Argument::FirstTenant,
     Argument::TenantMemory,
+    Argument::Load,
+    Argument::DumpTo,
+    Argument::Journal,
+    Argument::Sync,
+    Argument::Renew,
+    Argument::Keys,
+    Argument::Status,
     Argument::Log,
     Argument::Slow,
-    Argument::Renew,
     Argument::UntilInputEnds,
+];
+
+/// The parts of `replay`.
+pub(crate) const REPLAY_PARTS: [Argument; 4] = [
+    Argument::Tenants,
+    Argument::Bound,
+    Argument::Cells,
+    Argument::Workers,
+];
+
+/// The parts of `dump`.
+pub(crate) const DUMP_PARTS: [Argument; 4] = [
+    Argument::Tenants,
+    Argument::Bound,
+    Argument::Tenant,
+    Argument::Into,
+];
+
+/// The parts of `compact`.
+pub(crate) const COMPACT_PARTS: [Argument; 4] = [
+    Argument::Old,
+    Argument::New,
+    Argument::Tenants,
+    Argument::Bound,
 ];
 
 /// The numbers that an option may have, and the one that it has where it isn't given.
@@ -81,13 +147,29 @@ pub struct NumberRange {
     pub usual: u32,
 }
 
+impl Verb {
+    /// Its word.
+    pub(crate) fn word<'a>(self) -> &'a str
+        ensures { result.now ≡ spec.word_of self }
+    {
+        match self {
+            Verb::Run => "run",
+            Verb::Serve => "serve",
+            Verb::Replay => "replay",
+            Verb::Parse => "parse",
+            Verb::Dump => "dump",
+            Verb::Compact => "compact",
+            Verb::Key => "key",
+        }
+    }
+}
+
 impl Argument {
     /// Its name, as clap knows it.
     pub(crate) fn name<'a>(self) -> &'a str
         ensures { result.now ≡ spec.name_of self }
     {
         match self {
-            Argument::Command => "command",
             Argument::Old => "old",
             Argument::New => "new",
             Argument::Tenant => "tenant",
@@ -112,24 +194,6 @@ impl Argument {
             Argument::Slow => "slow",
             Argument::Renew => "renew",
             Argument::UntilInputEnds => "until-input-ends",
-        }
-    }
-
-    /// True if a command has it.
-    pub(crate) fn is_of(self, verb: Verb) -> bool
-        ensures { result ≡ spec.has self verb }
-    {
-        match self {
-            Argument::Command => true,
-            Argument::Old | Argument::New => matches!(verb, Verb::Compact),
-            Argument::Tenants | Argument::Bound => !matches!(verb, Verb::Parse | Verb::Key),
-            Argument::Tenant | Argument::Into => matches!(verb, Verb::Dump),
-            Argument::Load | Argument::Journal | Argument::Sync => matches!(
-                verb,
-                Verb::Run | Verb::Serve
-            ),
-            Argument::Cells | Argument::Workers => matches!(verb, Verb::Serve | Verb::Replay),
-            _ => matches!(verb, Verb::Serve),
         }
     }
 

@@ -1,58 +1,55 @@
 //! The first part of a command line that isn't allowed.
-ghost use Rattle.std.specs.Prelude.{◌≡◌, ◌↔◌, ◌⊎◌, IfErr, IfOk, IsTrue, MatchOption, Some};
+ghost use Rattle.std.specs.Prelude.{◌≡◌, ◌↔◌, IsTrue, MatchOption, None, Some};
 ghost use Rattle.clap.specs.Words.{rows_of, found_of};
 ghost use Rattle.sb_words.specs.Asking as spec;
-ghost use Rattle.sb_words.specs.Asking.{AllFit, AreAllowed, Fits, IsFirstOf, IsFirstUnfit, IsForeign, IsUnfit, IsWrong, LacksCommand, LacksNumber, LacksWord};
-ghost use Rattle.sb_words.specs.Arguments.{range_of, verb_in};
-ghost use Rattle.sb_words.specs.declared.argument.Argument.TheVariants as named;
+ghost use Rattle.sb_words.specs.Asking.{AllFit, AreAllowed, Fits, IsFirstGiven, IsFirstOf, IsFirstUnfit, IsUnfit, IsWrong, LacksNumber, LacksWord, NoneGiven};
+ghost use Rattle.sb_words.specs.Arguments.{range_of};
 
-use crate::argument::{Argument, PARTS, Unfit, Verb};
+use crate::argument::{Argument, PARTS, Unfit};
 use crate::given::text_at;
-use crate::meaning::{RENEW_POLICIES, SEVERITIES, SYNCS, VERBS, meaning_of};
+use crate::meaning::{RENEW_POLICIES, SEVERITIES, SYNCS, meaning_of};
 use crate::number::number;
 use clap::ArgMatches;
 
-/// The command, if all parts are allowed; or the first that isn't.
-pub(crate) fn first_unfit<'a>(matches: &ArgMatches<'a>) -> Result<Verb, Unfit<'a>>
-    ensures verb { IfOk result (λ v. verb_in (spec.text_at (rows_of (found_of matches.now)) named.Command) ≡ Some v) }
-    ensures allowed { IfOk result (λ v. AreAllowed (rows_of (found_of matches.now))) }
-    ensures unfit { IfErr result (IsFirstUnfit (rows_of (found_of matches.now))) }
+/// The first part of a command that isn't allowed. None: all are allowed.
+pub(crate) fn first_unfit<'a>(matches: &ArgMatches<'a>) -> Option<Unfit<'a>>
+    ensures { MatchOption result (AreAllowed (rows_of (found_of matches.now))) (IsFirstUnfit (rows_of (found_of matches.now))) }
 {
-    let verb = match verb_at(matches) {
-        Ok(verb) => verb,
-        Err(unfit) => return Err(unfit),
-    };
-    match first_among(matches, verb, &PARTS) {
-        Some(unfit) => Err(unfit),
-        None => Ok(verb),
-    }
+    first_among(matches, &PARTS)
 }
 
-/// The command, if there is one of its word.
-fn verb_at<'a>(matches: &ArgMatches<'a>) -> Result<Verb, Unfit<'a>>
-    ensures is { IfOk result (λ v. verb_in (spec.text_at (rows_of (found_of matches.now)) named.Command) ≡ Some v) }
-    ensures unfit { IfErr result (λ u. IsUnfit (rows_of (found_of matches.now)) named.Command u.text.now × (u.part ≡ named.Command)) }
+/// The first of these parts that is given.
+pub(crate) fn first_given<'a>(matches: &ArgMatches<'a>, parts: &[Argument]) -> Option<Unfit<'a>>
+    ensures { MatchOption result (NoneGiven (rows_of (found_of matches.now)) parts.now)
+        (λ u. IsFirstGiven (rows_of (found_of matches.now)) u parts.now) }
 {
-    let Some(text) = text_at(matches, Argument::Command) else {
-        return Ok(Verb::Run);
-    };
-    match meaning_of(text, &VERBS) {
-        Some(verb) => Ok(verb),
-        None => Err(Unfit {
-            part: Argument::Command,
-            text,
-        }),
+    for part in parts {
+        match given_at(matches, *part) {
+            Some(given) => return Some(given),
+            None => {}
+        }
+    }
+    None
+}
+
+/// The part, if it is given.
+fn given_at<'a>(matches: &ArgMatches<'a>, part: Argument) -> Option<Unfit<'a>>
+    ensures { MatchOption result (spec.text_at (rows_of (found_of matches.now)) part ≡ None)
+        (λ u. (spec.text_at (rows_of (found_of matches.now)) part ≡ Some u.text.now) × (u.part ≡ part)) }
+{
+    match text_at(matches, part) {
+        Some(text) => Some(Unfit { part, text }),
+        None => None,
     }
 }
 
 /// The first of these parts that isn't allowed.
-fn first_among<'a>(matches: &ArgMatches<'a>, verb: Verb, parts: &[Argument]) -> Option<Unfit<'a>>
-    requires { verb_in (spec.text_at (rows_of (found_of matches.now)) named.Command) ≡ Some verb }
+fn first_among<'a>(matches: &ArgMatches<'a>, parts: &[Argument]) -> Option<Unfit<'a>>
     ensures { MatchOption result (AllFit (rows_of (found_of matches.now)) parts.now)
         (λ u. IsFirstOf (rows_of (found_of matches.now)) u parts.now) }
 {
     for part in parts {
-        match unfit_at(matches, verb, *part) {
+        match unfit_at(matches, *part) {
             Some(unfit) => return Some(unfit),
             None => {}
         }
@@ -61,18 +58,18 @@ fn first_among<'a>(matches: &ArgMatches<'a>, verb: Verb, parts: &[Argument]) -> 
 }
 
 /// The part, if it isn't allowed.
-fn unfit_at<'a>(matches: &ArgMatches<'a>, verb: Verb, part: Argument) -> Option<Unfit<'a>>
-    requires { verb_in (spec.text_at (rows_of (found_of matches.now)) named.Command) ≡ Some verb }
+fn unfit_at<'a>(matches: &ArgMatches<'a>, part: Argument) -> Option<Unfit<'a>>
     ensures { MatchOption result (Fits (rows_of (found_of matches.now)) part)
         (λ u. IsUnfit (rows_of (found_of matches.now)) part u.text.now × (u.part ≡ part)) }
 {
     let Some(text) = text_at(matches, part) else {
         return None;
     };
-    if part.is_of(verb) && !is_wrong(matches, part, text) {
-        return None;
+    if is_wrong(matches, part, text) {
+        Some(Unfit { part, text })
+    } else {
+        None
     }
-    Some(Unfit { part, text })
 }
 
 /// True if a text isn't what the part has to be.
@@ -97,7 +94,6 @@ fn lacks_word(matches: &ArgMatches<'_>, part: Argument, text: &str) -> bool
     ensures { IsTrue result ↔ LacksWord (rows_of (found_of matches.now)) part text.now }
 {
     match part {
-        Argument::Command => lacks_command(matches, meaning_of(text, &VERBS)),
         Argument::Log => meaning_of(text, &SEVERITIES).is_none(),
         Argument::Renew => meaning_of(text, &RENEW_POLICIES).is_none(),
         Argument::Into => text_at(matches, Argument::Tenant).is_some(),
@@ -105,17 +101,5 @@ fn lacks_word(matches: &ArgMatches<'_>, part: Argument, text: &str) -> bool
         Argument::Sync => meaning_of(text, &SYNCS).is_none()
             || text_at(matches, Argument::Journal).is_none(),
         _ => false,
-    }
-}
-
-/// True if there is no such command, or it lacks one of its files.
-fn lacks_command(matches: &ArgMatches<'_>, verb: Option<Verb>) -> bool
-    ensures { IsTrue result ↔ LacksCommand (rows_of (found_of matches.now)) verb }
-{
-    match verb {
-        None => true,
-        Some(Verb::Compact) => text_at(matches, Argument::Old).is_none()
-            || text_at(matches, Argument::New).is_none(),
-        Some(_) => false,
     }
 }

@@ -3,7 +3,6 @@ ghost use Rattle.std.specs.Prelude.{◌≡◌, ◌≤◌, IfErr, IfOk, IfSome, N
 ghost use Rattle.clap.specs.Words.{rows_of, found_of};
 ghost use Rattle.sb_words.specs.Asking as spec;
 ghost use Rattle.sb_words.specs.Asking.{AreAllowed, AsksBy, IsFirstUnfit, text_at};
-ghost use Rattle.sb_words.specs.Arguments.{verb_in};
 ghost use Rattle.sb_words.specs.Requests.{beginning_of, request_of, text_of};
 ghost use Rattle.sb_words.specs.Within.{AreHost, AreRun, AreServer, IsWithin};
 ghost use Rattle.sb_words.specs.declared.argument.Argument.TheVariants as named;
@@ -126,15 +125,18 @@ pub enum Invocation<'a> {
     Key,
 }
 
-/// The command with its words that is asked for, or the first part that isn't allowed.
-pub(crate) fn requested<'a>(matches: &ArgMatches<'a>) -> Result<Invocation<'a>, Unfit<'a>>
-    ensures asked { IfOk result (λ i. AsksBy (rows_of (found_of matches.now)) (request_of i)) }
+/// What a command asks for, or its first part that isn't allowed.
+pub(crate) fn requested<'a>(
+    verb: Verb,
+    matches: &ArgMatches<'a>,
+) -> Result<Invocation<'a>, Unfit<'a>>
+    ensures asked { IfOk result (λ i. AsksBy verb (rows_of (found_of matches.now)) (request_of i)) }
     ensures unfit { IfErr result (IsFirstUnfit (rows_of (found_of matches.now))) }
     ensures within { IfOk result IsWithin }
 {
     match first_unfit(matches) {
-        Ok(verb) => Ok(asked_by(matches, verb)),
-        Err(unfit) => Err(unfit),
+        Some(unfit) => Err(unfit),
+        None => Ok(asked_by(matches, verb)),
     }
 }
 

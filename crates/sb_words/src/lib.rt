@@ -19,14 +19,14 @@ mod words;
 
 pub use argument::{Argument, NumberRange, Unfit, Verb};
 pub use clap::Error;
-pub use help::{ALLOWED, HELP, VERSION};
+pub use help::VERSION;
 pub use invocation::{
     CompactWords, DumpWords, Dumping, HostOptions, Invocation, JournalWords, Origin, Run, RunWords,
     ServeWords, ServerOptions,
 };
 pub use laws::words_ask_once;
 pub use log::Log;
-pub use refusal::refusal_line;
+pub use refusal::{misplaced_line, refusal_line};
 pub use renew_policy::RenewPolicy;
 pub use severity::Severity;
 pub use syncs::Syncs;

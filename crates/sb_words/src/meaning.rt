@@ -7,7 +7,7 @@ use crate::renew_policy::RenewPolicy;
 use crate::severity::Severity;
 use crate::syncs::Syncs;
 
-/// The commands.
+/// The commands, in the order in which help lists them.
 pub(crate) const VERBS: [(&str, Verb); 7] = [
     ("run", Verb::Run),
     ("serve", Verb::Serve),

@@ -8,11 +8,11 @@ ghost use Rattle.sb_backup.specs.Outputs.{Writes, WritesOf};
 ghost use Rattle.sb_durable.specs.JournaledRuns.{AnswersJournaled};
 ghost use Rattle.sb_keys.specs.KeyDigests.{TellsDigest};
 ghost use Rattle.sb_replay.specs.Replay.{Replays};
-ghost use Rattle.sb_words.specs.Refusals.{refusal_text};
+ghost use Rattle.sb_words.specs.Refusals.{misplaced_text, refusal_text};
 ghost use Rattle.sb_words.specs.Requests as request;
 ghost use Rattle.sb_words.specs.Requests.{Beginning, Request, request_of, text_of};
 ghost use Rattle.sb_words.specs.Within.{AreDump, IsWithin};
-ghost use Rattle.sb_words.specs.Words.{AskFor, AskForHelp, AskForVersion, HasFault, HaveUnfit};
+ghost use Rattle.sb_words.specs.Words.{AskFor, AskForHelp, AskForVersion, HasFault, HaveMisplaced, HaveUnfit};
 ghost use Rattle.sb_words.specs.declared.argument.Unfit.{Unfit as ItsUnfit};
 ghost use Rattle.sb_words.specs.declared.invocation.Dumping.{Dumping as ItsDumping};
 ghost use Rattle.sb_words.specs.declared.invocation.HostOptions.{HostOptions as ItsHostOptions};
@@ -27,20 +27,18 @@ ghost use Rattle.starhost.specs.Totals.{TellsServer};
 use crate::fault::tell_end;
 use crate::parse::parse_lines;
 use crate::part_faults::{of_backup, of_digest, of_journal};
-use crate::refusal_lines::{refuse, refuse_part};
+use crate::refusal_lines::{refuse, refuse_misplaced, refuse_part, show, show_help};
 use crate::replay::replay;
 use crate::run::run;
-use crate::run_report::{Console, SUCCESS, fault, tell_stream_end};
+use crate::run_report::{Console, fault, tell_stream_end};
 use crate::server::serve;
 use crate::system::System;
 use sb_backup::{dump_all, dump_tenant};
 use sb_durable::compact;
 use sb_keys::tell_digest;
 use sb_monitor::EventLog;
-use sb_wire::{Sink, Source, StreamError, write_bytes};
-use sb_words::{
-    ALLOWED, Asked, DumpWords, HELP, Invocation, Severity, VERSION, read_words, words_ask_once,
-};
+use sb_wire::{Sink, Source, StreamError};
+use sb_words::{Asked, DumpWords, Invocation, Severity, VERSION, read_words, words_ask_once};
 use std::alloc::Global;
 use std::convert::AsStr;
 
@@ -93,14 +91,15 @@ pub fn command<T: System + Sync, S: AsStr, R: Source, W: Sink, E: Sink>(
         → result ≡ 0 → TellsDigest (R.remaining reader.old) (R.remaining reader.new)
         (W.contents writer.old) (W.contents writer.new) }
     // whatever the status: of a run how its stream went; of a server, a replay or a dump the fault that it ended with, and
-    // why; how the stream of lines went of which it is told whether they are commands; help and the version, as they are
-    // asked for; words with a fault; the first part that isn't allowed, by its line; and want of memory
+    // why; how the stream of lines went of which it is told whether they are commands; some help, and the version, as they
+    // are asked for; words with a fault; the first part that isn't allowed, and the first option in front of a command,
+    // each by its line; and want of memory
     ensures asked { ((q : Request) × AskFor (map S.text words.now) q
         × Goes R.fails R.remaining W.refuses W.contents E.refuses E.contents reader.old reader.new
         writer.old writer.new errors.old.is_terminal errors.old.sink errors.new.sink result q)
         ⊎ (AskForHelp (map S.text words.now) × (reader.new ≡ reader.old)
-        × Shows W.refuses W.contents E.refuses E.contents HELP.now writer.old writer.new
-        errors.old.sink errors.new.sink result)
+        × ((text : List ℕ) × Shows W.refuses W.contents E.refuses E.contents text writer.old writer.new
+        errors.old.sink errors.new.sink result))
         ⊎ (AskForVersion (map S.text words.now) × (reader.new ≡ reader.old)
         × Shows W.refuses W.contents E.refuses E.contents VERSION.now writer.old writer.new
         errors.old.sink errors.new.sink result)
@@ -108,7 +107,10 @@ pub fn command<T: System + Sync, S: AsStr, R: Source, W: Sink, E: Sink>(
         × (writer.new ≡ writer.old))
         ⊎ ((u : ItsUnfit) × HaveUnfit (map S.text words.now) u × (result ≡ 2)
         × (reader.new ≡ reader.old) × (writer.new ≡ writer.old)
-        × Tells E.refuses E.contents errors.old.sink errors.new.sink (refusal_text ALLOWED.now u))
+        × Tells E.refuses E.contents errors.old.sink errors.new.sink (refusal_text u))
+        ⊎ ((u : ItsUnfit) × HaveMisplaced (map S.text words.now) u × (result ≡ 2)
+        × (reader.new ≡ reader.old) × (writer.new ≡ writer.old)
+        × Tells E.refuses E.contents errors.old.sink errors.new.sink (misplaced_text u))
         ⊎ ((result ≡ 1) × (reader.new ≡ reader.old) × (writer.new ≡ writer.old)
         × Tells E.refuses E.contents errors.old.sink errors.new.sink
         (fault_line StreamError.NoMemory)) }
@@ -117,10 +119,11 @@ pub fn command<T: System + Sync, S: AsStr, R: Source, W: Sink, E: Sink>(
     words_ask_once();
     match read_words(alloc, words) {
         Ok(Asked::For(asked)) => answer(rt, alloc, asked, reader, writer, errors),
-        Ok(Asked::Help) => show(HELP, writer, &mut errors.sink),
+        Ok(Asked::Help(help)) => show_help(alloc, &help, writer, &mut errors.sink),
         Ok(Asked::Version) => show(VERSION, writer, &mut errors.sink),
         Ok(Asked::Refused(error)) => refuse(alloc, &error, &mut errors.sink),
         Ok(Asked::NotAllowed(unfit)) => refuse_part(alloc, unfit, &mut errors.sink),
+        Ok(Asked::Misplaced(unfit)) => refuse_misplaced(alloc, unfit, &mut errors.sink),
         Err(_) => fault(StreamError::NoMemory, &mut errors.sink),
     }
 }
@@ -193,15 +196,5 @@ fn dump<T: System, R: Source, W: Sink, E: Sink>(
             let ended = dump_all(rt, alloc, &log, asked.dump.run, Some(path), reader);
             tell_end(alloc, of_backup(ended), &mut errors.sink)
         }
-    }
-}
-
-fn show<W: Sink, E: Sink>(text: &str, writer: &mut W, errors: &mut E) -> u8
-    ensures { Shows W.refuses W.contents E.refuses E.contents text.now writer.old writer.new
-        errors.old errors.new result }
-{
-    match write_bytes(writer, text.as_bytes()) {
-        Ok(()) => SUCCESS,
-        Err(error) => fault(error, errors),
     }
 }

@@ -34,7 +34,10 @@ pub returns-in-Ok-Help-clause-usual : goal.returns-in-Ok-Help-clause-usual
 returns-in-Ok-Help-clause-usual g c = λ few ok. let words = map g.S.AsStr.text c.args.words.now in absurd (c.words_ask_once.ensures.one_thing words _ (c.words_ask_once.ensures.usual words (few_texts g.S.AsStr.text c.args.words.now few)) _ (rw c.in-Ok-Help.field-0-is at c.in-Ok-Help.ensures.asked))
 
 pub returns-in-Ok-Help-clause-asked : goal.returns-in-Ok-Help-clause-asked
-returns-in-Ok-Help-clause-asked g c = inr (inl (rw c.in-Ok-Help.field-0-is at c.in-Ok-Help.ensures.asked, refl, c.show.ensures))
+returns-in-Ok-Help-clause-asked g c = elim c.show_help.ensures [
+  | inl shown ↦ inr (inl (rw c.in-Ok-Help.field-0-is at c.in-Ok-Help.ensures.asked, refl, shown))
+  | inr short ↦ inr (inr (inr (inr (inr (inr (short.0, refl, short.1, short.2))))))
+]
 
 pub returns-in-Ok-Version-clause-usual : goal.returns-in-Ok-Version-clause-usual
 returns-in-Ok-Version-clause-usual g c = λ few ok. let words = map g.S.AsStr.text c.args.words.now in absurd (c.words_ask_once.ensures.one_thing words _ (c.words_ask_once.ensures.usual words (few_texts g.S.AsStr.text c.args.words.now few)) _ (rw c.in-Ok-Version.field-0-is at c.in-Ok-Version.ensures.asked))
@@ -43,10 +46,11 @@ pub returns-in-Ok-Version-clause-asked : goal.returns-in-Ok-Version-clause-asked
 returns-in-Ok-Version-clause-asked g c = inr (inr (inl (rw c.in-Ok-Version.field-0-is at c.in-Ok-Version.ensures.asked, refl, c.show-in-Ok-Version.ensures)))
 
 -- why words are refused, or no memory for the line
-module _ {A B : Type 0} (asked : A) (n : ℕ) {R W Told : Type 0} (reader : R) (writer : W) where
-  refused : (n ≡ 2) ⊎ ((n ≡ 1) × Told) → (A × (n ≡ 2) × (reader ≡ reader) × (writer ≡ writer)) ⊎ (B ⊎ ((n ≡ 1) × (reader ≡ reader) × (writer ≡ writer) × Told))
+module _ {A B C : Type 0} (asked : A) (n : ℕ) {R W Told : Type 0} (reader : R) (writer : W) where
+  refused : (n ≡ 2) ⊎ ((n ≡ 1) × Told)
+      → (A × (n ≡ 2) × (reader ≡ reader) × (writer ≡ writer)) ⊎ (B ⊎ (C ⊎ ((n ≡ 1) × (reader ≡ reader) × (writer ≡ writer) × Told)))
   refused (inl two) = inl (asked, two, refl, refl)
-  refused (inr one) = inr (inr (one.0, refl, refl, one.1))
+  refused (inr one) = inr (inr (inr (one.0, refl, refl, one.1)))
 
 pub returns-in-Ok-Refused-clause-asked : goal.returns-in-Ok-Refused-clause-asked
 returns-in-Ok-Refused-clause-asked g c =
@@ -59,8 +63,16 @@ returns-in-Ok-NotAllowed-clause-asked g c =
     let unfit = c.in-Ok-NotAllowed.unfit in
     let has = subst (IsAsked (map g.S.AsStr.text c.args.words.now)) c.in-Ok-NotAllowed.field-0-is c.in-Ok-NotAllowed.ensures.asked in
     inr (inr (inr (inr (
-    elim c.refuse_part.ensures [ inl said ↦ inl (unfit, has, said.0, refl, refl, said.1) | inr short ↦ inr (short.0, refl, refl, short.1) ]
+    elim c.refuse_part.ensures [ inl said ↦ inl (unfit, has, said.0, refl, refl, said.1) | inr short ↦ inr (inr (short.0, refl, refl, short.1)) ]
     ))))
 
+pub returns-in-Ok-Misplaced-clause-asked : goal.returns-in-Ok-Misplaced-clause-asked
+returns-in-Ok-Misplaced-clause-asked g c =
+    let unfit = c.in-Ok-Misplaced.unfit in
+    let has = subst (IsAsked (map g.S.AsStr.text c.args.words.now)) c.in-Ok-Misplaced.field-0-is c.in-Ok-Misplaced.ensures.asked in
+    inr (inr (inr (inr (inr (
+    elim c.refuse_misplaced.ensures [ inl said ↦ inl (unfit, has, said.0, refl, refl, said.1) | inr short ↦ inr (short.0, refl, refl, short.1) ]
+    )))))
+
 pub returns-in-Err-clause-asked : goal.returns-in-Err-clause-asked
-returns-in-Err-clause-asked g c = inr (inr (inr (inr (inr (c.fault.ensures.status, refl, refl, c.fault.ensures.tells)))))
+returns-in-Err-clause-asked g c = inr (inr (inr (inr (inr (inr (c.fault.ensures.status, refl, refl, c.fault.ensures.tells))))))
