@@ -8,9 +8,9 @@ pub const VERSION: &str = "starhost 0.1\n";
 pub(crate) const ABOUT: &str = "\
 starhost is a server for active databases. Without a command it does what `run` does.
 
-A line of `run` and `replay` is `<tenant> <session> <command>`, and each line of its reply begins with the same two
-numbers. The first line of a connection to `serve` is `<tenant> <session>`, each further one is a command, and replies
-have no numbers.";
+A line of `run` and `replay` is `<tenant> <session> <command>`, and each line of its reply
+begins with the same two numbers. The first line of a connection to `serve` is
+`<tenant> <session>`, each further one is a command, and replies have no numbers.";
 
 /// What stands below the program's help.
 pub(crate) const EXAMPLES: &str = "\
@@ -23,27 +23,24 @@ Examples:
   printf '0 0\\ncreate table t (a int)\\n' | nc -N 127.0.0.1 7411
   echo 'select * from' | starhost parse
 
-`starhost <COMMAND> --help` has the options of a command. A command ends with status 0; with 1 and a line `fault: ..` on
-standard error where it failed; words that aren't allowed are refused with status 2. docs/COMMANDS.md has all commands.";
+`starhost <COMMAND> --help` has the options of a command. A command ends with status 0; with 1
+and a line `fault: ..` on standard error where it failed; words that aren't allowed are
+refused with status 2. docs/COMMANDS.md has all commands.";
 
 impl Verb {
     /// What the command does.
     pub(crate) fn about<'a>(self) -> &'a str {
         match self {
-            Verb::Run => {
-                "Answer the lines of standard input on standard output, each before more input is read"
-            }
+            Verb::Run => "Answer the lines of standard input, each before more input is read",
             Verb::Serve => "Serve connections on 127.0.0.1, each of them a session",
-            Verb::Replay => {
-                "Read all lines of standard input, call their sessions on several threads, and write the replies session by session"
-            }
+            Verb::Replay => "Call the sessions of all lines of standard input on several threads",
             Verb::Parse => {
-                "Tell of each line of standard input whether it is a command: `ok`, `syntax <place>` (the byte, counted from 1, where it stops being one) or `too long`"
+                "Tell of each line of standard input whether it is a command:\n`ok`, `syntax <place>` (the byte where it stops being one) or `too long`"
             }
             Verb::Dump => {
-                "Answer the lines of standard input as `run` does, and write, in place of the replies, the lines that make a tenant again"
+                "Answer the lines of standard input as `run` does, and write, in place\nof the replies, the lines that make a tenant again"
             }
-            Verb::Compact => "Write a journal anew, as short as it can be",
+            Verb::Compact => "Write the journal OLD anew, as short as it can be, to NEW",
             Verb::Key => "Write the digest of the key on standard input, as a file of keys has it",
         }
     }
@@ -54,60 +51,63 @@ impl Argument {
     pub(crate) fn help<'a>(self) -> &'a str {
         match self {
             Argument::Old => "The journal",
-            Argument::New => "Where the new one is written; nothing may be there",
+            Argument::New => "The path of the new one, where nothing is",
             Argument::Tenants => "Host the tenants 0 to N - 1: 1 to 256 [default: 16]",
             Argument::Bound => {
-                "The most rules that are considered at one assertion point: 1 to 1000 [default: 1000]"
+                "The most rules that are considered at one assertion point:\n1 to 1000 [default: 1000]"
             }
             Argument::Tenant => "The tenant that is written: 0 to 255 [default: 0]",
             Argument::Into => {
-                "Write each tenant N that was opened to FOLDER/N.lines, and nothing on standard output"
+                "Write each tenant N that was opened to FOLDER/N.lines,\nand nothing on standard output"
             }
             Argument::Cells => {
-                "Groups of tenants that may wait for each other: tenant t is in group t modulo N; 1 to 16 [default: 4]"
+                "Groups of tenants that may wait for each other: tenant t\nis in group t modulo N; 1 to 16 [default: 4]"
             }
             Argument::Workers => {
-                "Threads: 1 to 16. In `serve` each has its share of the groups [default: 4]"
+                "Threads: 1 to 16. In `serve` each has its share of the\ngroups [default: 4]"
             }
             Argument::Port => "The port; 0 is any free one [default: 0]",
-            Argument::Connections => "Stop behind so many connections; 0 is never [default: 0]",
+            Argument::Connections => {
+                "Stop behind so many connections: at most 1000000; 0 is\nnever [default: 0]"
+            }
             Argument::Idle => {
-                "Close a connection that has sent no whole line for so long: at most 86400; 0 is never [default: 0]"
+                "Close a connection that has sent no whole line for so\nlong: at most 86400; 0 is never [default: 0]"
             }
             Argument::IdleTransaction => {
-                "The same for a connection that has a transaction open [default: 0]"
+                "Close a connection that has a transaction open and has\nsent no whole line for so long [default: 0]"
             }
-            Argument::FirstTenant =>
-                "The tenants' numbers begin at N: at most 999999000 [default: 0]",
+            Argument::FirstTenant => {
+                "The tenants' numbers begin at N: at most 999999000\n[default: 0]"
+            }
             Argument::TenantMemory => {
-                "What a tenant's trail and open transactions may take: at most 1048576; 0 is as much as there is [default: 0]"
+                "What a tenant's trail and open transactions may take:\nat most 1048576; 0 is as much as there is [default: 0]"
             }
             Argument::Load => {
-                "Play the lines of the files FOLDER/N.lines first, each as the first session of tenant N; a tenant without a file is empty"
+                "Play the lines of the files FOLDER/N.lines first, each\nas the first session of tenant N; a tenant without a\nfile is empty"
             }
             Argument::DumpTo => {
-                "Behind the last connection, write each tenant N that was ever opened to FOLDER/N.lines, by the lines that make it again"
+                "Behind the last connection, write each tenant N that\nwas ever opened to FOLDER/N.lines, by the lines that\nmake it again"
             }
             Argument::Journal => {
-                "Write each line to FILE before its reply binds, and play FILE at the start; not with --load"
+                "Write each line to FILE before its reply binds, and play\nFILE at the start; not with --load"
             }
             Argument::Sync => {
-                "When a record is on the disk. always: before its reply; second: a second behind it, at most, and in `run` at its end; never: when the system puts it there [default: always]"
+                "When a record is on the disk. always: before its reply;\nsecond: a second behind it, at most, and in `run` at its\nend; never: when the system puts it there\n[default: always]"
             }
             Argument::Renew => {
-                "auto: a tenant whose trail or memory is nearly full is renewed while its connections stay open; never: only where --status is asked for it [default: auto with --journal, or else never]"
+                "auto: a tenant whose trail or memory is nearly full is\nrenewed while its connections stay open; never: none is\nthat isn't asked for at --status\n[default: auto with --journal, or else never]"
             }
             Argument::Keys => {
-                "A first line has a key behind its numbers, whose digest stands in FILE for its tenant; FILE is read again where it changes"
+                "A first line has a key behind its numbers, whose digest\nstands in FILE for its tenant; FILE is read again where\nit changes"
             }
             Argument::Status => {
-                "Pages for a browser and numbers for Prometheus at this port; 0 is any free one"
+                "Pages for a browser and numbers for Prometheus at this\nport; 0 is any free one"
             }
             Argument::Log => {
-                "What is logged on standard error: error, warning or info, which is all [default: info]"
+                "What is logged on standard error: error, warning or\ninfo, which is all [default: info]"
             }
             Argument::Slow => {
-                "Log a line that took so long: at most 86400000; 0 logs none [default: 1000]"
+                "Log a line that took so long: at most 86400000; 0 logs\nnone [default: 1000]"
             }
             Argument::UntilInputEnds => "Stop where standard input ends",
         }
@@ -129,16 +129,9 @@ impl Argument {
         }
     }
 
-    /// The group in which help shows it.
+    /// The group in which help shows an option.
     pub(crate) fn heading<'a>(self) -> &'a str {
         match self {
-            Argument::Old | Argument::New => "Files",
-            Argument::Tenants
-            | Argument::Bound
-            | Argument::Cells
-            | Argument::Workers
-            | Argument::FirstTenant
-            | Argument::TenantMemory => "Tenants",
             Argument::Port
             | Argument::Connections
             | Argument::Idle
@@ -152,6 +145,7 @@ impl Argument {
             | Argument::Renew => "What survives",
             Argument::Tenant | Argument::Into => "What is written",
             Argument::Status | Argument::Log | Argument::Slow => "What is told",
+            _ => "Tenants",
         }
     }
 }

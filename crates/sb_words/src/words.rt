@@ -164,12 +164,16 @@ fn arg_of<'a>(alloc: Global, part: Argument) -> Arg<'a>
     ensures local { result.global ≡ false }
 {
     let name = part.name();
-    let arg = Arg::new(alloc, name)
-        .help(part.help())
-        .help_heading(part.heading());
+    let arg = Arg::new(alloc, name).help(part.help());
     match part {
         Argument::Old | Argument::New => arg.value_name(part.value_name()).required(true),
-        Argument::UntilInputEnds => arg.long(name).action(ArgAction::SetTrue),
-        _ => arg.long(name).value_name(part.value_name()),
+        Argument::UntilInputEnds => {
+            let flag = arg.long(name).help_heading(part.heading());
+            flag.action(ArgAction::SetTrue)
+        }
+        _ => {
+            let option = arg.long(name).help_heading(part.heading());
+            option.value_name(part.value_name())
+        }
     }
 }
