@@ -1,8 +1,6 @@
 """Manual pages from what programs print for --help."""
 
-import re
-
-ITEM = re.compile(r"  ((?:-\w, )?[\w-]+(?: [A-Z]+)*)(?: +(.*))?$")
+from bench.gate.help_text import Item, items, sections
 
 
 def escaped(text):
@@ -11,29 +9,14 @@ def escaped(text):
     return f"\\&{text}" if text[:1] in (".", "'") else text
 
 
-def sections(text):
-    """The parts of a help text, each with its head and its lines. What stands under no head describes the program."""
-    parts, described = [], []
-    for line in text.splitlines():
-        head = re.fullmatch(r"([Uu]sage|[A-Za-z][\w ,]*(?=:$)):(?: (.*))?", line)
-        if head:
-            parts.append((head[1], [head[2]] if head[2] else []))
-        elif parts and (not line or line[0] == " "):
-            parts[-1][1].append(line)
-        else:
-            described += [line, ""] if line.endswith(".") else [line]
-    return [*parts[:1], ("Description", described), *parts[1:]]
-
-
-def item_lines(lines):
-    """Lines as paragraphs, those of a word and what it means with a tag."""
+def paragraphs(lines):
+    """Lines as roff, where an empty one begins a paragraph, and a command or an option has a tag."""
     out = []
     for line in lines:
-        item = ITEM.match(line)
-        if item:
-            out += [".TP", f".B {escaped(item[1])}", *([escaped(item[2])] if item[2] else [])]
+        if isinstance(line, Item):
+            out += [".TP", f".B {escaped(line.name)}", *map(escaped, line.lines)]
         else:
-            out.append(escaped(line.strip()) or ".PP")
+            out.append(escaped(line) or ".PP")
     return out
 
 
@@ -42,13 +25,15 @@ def section_lines(head, lines):
     if head == "Examples":
         return [".SH EXAMPLES", ".nf", *[escaped(line.strip()) for line in lines if line.strip()], ".fi"]
     name = "SYNOPSIS" if head.lower() == "usage" else head.upper()
-    return [f".SH {name}", *item_lines(lines)]
+    return [f".SH {name}", *paragraphs(items(lines))]
 
 
 def manual(name, about, text, version, date):
-    """The manual page of a program."""
-    lines = [f'.TH {name.upper()} 1 "{date}" "{version}" "User Commands"', ".SH NAME", f"{name} \\- {about}"]
-    for head, body in sections(text):
+    """The manual page of a program or of a command."""
+    described, parts = sections(text)
+    lines = [f'.TH {name.upper()} 1 "{date}" "{version}" "User Commands"', ".SH NAME", f"{escaped(name)} \\- {escaped(about)}"]
+    lines += section_lines(*parts[0]) + [".SH DESCRIPTION", *paragraphs(described)]
+    for head, body in parts[1:]:
         lines += section_lines(head, body)
     followed = zip(lines, [*lines[1:], ".SH"])
     return "".join(f"{line}\n" for line, behind in followed if line != ".PP" or behind[:3] not in (".SH", ".TP", ".PP"))

@@ -19,6 +19,8 @@ import subprocess
 import sys
 import tempfile
 
+from bench.gate.completion import completion
+from bench.gate.help_text import Item, items, sections
 from bench.gate.manual import manual
 from bench.harness import BUILT, TOP
 
@@ -97,16 +99,26 @@ def put_program(root, program):
             put(root / "usr/lib/python3/dist-packages/filgwesha" / path.name, path.read_bytes())
 
 
+def helps_of(program):
+    """What the program prints for --help, and what each of its commands does."""
+    text = said(program, "--help")
+    commands = dict(sections(text)[1])["Commands"]
+    return text, {item.name: said(program, item.name, "--help") for item in items(commands) if isinstance(item, Item)}
+
+
 def put_manuals(root, program, commit):
-    """A manual page of each command."""
+    """A manual page of each program and command, and what bash completes."""
+    text, helps = helps_of(program)
     shell = [sys.executable, "-m", "filgwesha", "--help"]
-    helps = {
-        "starhost": said(program, "--help"),
-        "filgwesha": said(*shell, env={**os.environ, "PYTHONPATH": str(CLIENT), "COLUMNS": "80"}),
-    }
-    for name, text in helps.items():
-        page = manual(name, ABOUT[name], text, f"Filgwesha {commit.release}", commit.day)
+    shell_help = said(*shell, env={**os.environ, "PYTHONPATH": str(CLIENT), "COLUMNS": "80"})
+    pages = {"starhost": (ABOUT["starhost"], text), "filgwesha": (ABOUT["filgwesha"], shell_help)}
+    for name, help_text in helps.items():
+        about = help_text.splitlines()[0]
+        pages[f"starhost-{name}"] = (about[0].lower() + about[1:].rstrip(":"), help_text)
+    for name, (about, help_text) in pages.items():
+        page = manual(name, about, help_text.replace("starhost.bin", "starhost"), f"Filgwesha {commit.release}", commit.day)
         put(root / f"usr/share/man/man1/{name}.1.gz", packed(page))
+    put(root / "usr/share/bash-completion/completions/starhost", completion("starhost", text, helps))
 
 
 def put_documents(root, commit):

@@ -5,8 +5,8 @@
 
 PROGRAM is crates/starhost/out/starhost where no word is given. Told in one line each: two runs make the same bytes;
 the program of the Debian package answers examples/card.lines as the built one does, and lintian finds no error in the
-package, where it is installed; its unit is one by `systemd-analyze`, and its manual pages have no fault by `man`, where
-these are; the client is installed from its sources and from its wheel without a network. The first thing that isn't as
+package, where it is installed; its unit is one by `systemd-analyze`, and its manual pages, one for each command, have no
+fault by `man`, where these are; bash completes commands and options; the client is installed from its sources and from its wheel without a network. The first thing that isn't as
 it is to be ends this with status 1.
 """
 
@@ -19,6 +19,17 @@ import tempfile
 
 from bench.gate.package import package
 from bench.harness import TOP, expect, need, program_of
+
+
+# lines, with what bash completes at their ends
+COMPLETED = [
+    ("starhost se", "serve"),
+    ("starhost serve --po", "--port"),
+    ("starhost serve --idle-", "--idle-transaction"),
+    ("starhost parse --t", ""),
+    ("starhost --vers", "--version"),
+    ("starhost run --load u", "usr"),
+]
 
 
 def ended(*words, **given):
@@ -62,7 +73,17 @@ def installs(program, folder, room):
     for page in pages:
         if shutil.which("man"):
             expect(f"faults of {page.name}", faults_of(page), "")
-    print(f"package: {len(pages)} manual pages; {'; '.join(told)}")
+    for line, wanted in COMPLETED:
+        expect(f"what is completed of {line}", completed(root, line), wanted)
+    print(f"package: {len(pages)} manual pages; {len(COMPLETED)} words completed; {'; '.join(told)}")
+
+
+def completed(root, line):
+    """What bash completes at the end of a line."""
+    words = line.split(" ")
+    script = root / "usr/share/bash-completion/completions/starhost"
+    code = f"source {script}; COMP_WORDS=({' '.join(words[:-1])} '{words[-1]}'); COMP_CWORD={len(words) - 1}; _starhost; echo ${{COMPREPLY[@]}}"
+    return subprocess.run(["bash", "-c", code], capture_output=True, text=True, cwd=root).stdout.strip()
 
 
 def faults_of(page):

@@ -20,18 +20,29 @@ import tty
 
 from bench.harness import program_of
 
-HELP = pathlib.Path(__file__).resolve().parent / "help.txt"
+HELPS = pathlib.Path(__file__).resolve().parent / "help"
 
-# What stands behind each reason why words are refused.
-ALLOWED = (
-    b"; allowed are: run, serve, replay, parse, dump, compact OLD NEW, key; of all but parse and key --tenants 1 "
-    b"to 256, --bound 1 to 1000; of run and serve --load a folder, --journal a file but not with --load, --sync "
-    b"always, second or never with --journal; of dump --tenant 0 to 255, or --into a folder; of serve and replay "
-    b"--cells 1 to 16, --workers 1 to 16; of serve --port 0 to 65535, --connections 0 to 1000000, --idle 0 to 86400, "
-    b"--idle-transaction 0 to 86400, --first-tenant 0 to 999999000, --tenant-memory 0 to 1048576, --log error, "
-    b"warning or info, --slow 0 to 86400000, --renew auto or never, --until-input-ends, --dump-to a folder, --keys a file, "
-    b"--status 0 to 65535; --help, --version\n"
-)
+# What is allowed in a part's place.
+ALLOWED = {
+    "tenants": "1 to 256",
+    "bound": "1 to 1000",
+    "tenant": "0 to 255",
+    "into": "a folder, without --tenant",
+    "cells": "1 to 16",
+    "workers": "1 to 16",
+    "port": "0 to 65535",
+    "connections": "0 to 1000000",
+    "idle": "0 to 86400",
+    "idle-transaction": "0 to 86400",
+    "first-tenant": "0 to 999999000",
+    "tenant-memory": "0 to 1048576",
+    "journal": "a file, without --load",
+    "sync": "always, second or never, with --journal",
+    "renew": "auto or never",
+    "status": "0 to 65535",
+    "log": "error, warning or info",
+    "slow": "0 to 86400000",
+}
 
 # A number past its range, and the words in front of it.
 PAST = [
@@ -59,6 +70,17 @@ PAST = [
     ("--tenant 256", "dump"),
     ("--tenant x", "dump"),
     ("--tenants 0", "dump"),
+]
+
+# What doesn't go with the words in front of it.
+TOGETHER = [
+    ("--into x", "dump --tenant 0"),
+    ("--journal x", "run --load y"),
+    ("--journal x", "serve --load y"),
+    ("--sync always", "serve"),
+    ("--sync second", "run"),
+    ("--sync often", "serve --journal x"),
+    ("--sync seconds", "run --journal x"),
 ]
 
 # An option of another command.
@@ -98,16 +120,9 @@ ELSEWHERE = [
     ("--into x", "serve"),
     ("--into x", "replay"),
     ("--into x", "parse"),
-    ("--into x", "dump --tenant 0"),
-    ("--journal x", "run --load y"),
     ("--journal x", "replay"),
     ("--journal x", "dump"),
-    ("--journal x", "serve --load y"),
     ("--sync always", "replay"),
-    ("--sync always", "serve"),
-    ("--sync second", "run"),
-    ("--sync often", "serve --journal x"),
-    ("--sync seconds", "run --journal x"),
     ("--keys x", "run"),
     ("--keys x", "key"),
     ("--tenants 2", "key"),
@@ -119,14 +134,30 @@ ELSEWHERE = [
     ("--log info", "dump"),
 ]
 
-# Words that clap refuses, with its reason.
+# An option in front of a command.
+IN_FRONT = [
+    ("--tenants 4", "serve --port 0"),
+    ("--bound 0", "run"),
+    ("--load x", "dump"),
+    ("--journal x --sync often", "parse"),
+]
+
+# Words that clap refuses, with its reason, the usage that it tells, and what is near.
 UNREAD = [
-    ("run x y z", "unexpected argument 'z' found"),
-    ("serve --port -1", "unexpected argument '-1' found"),
-    ("--nix", "unexpected argument '--nix' found"),
-    ("--bound", "a value is required for '--bound <bound>' but none was supplied"),
-    ("--bound 1 --bound 2", "the argument '--bound <bound>' cannot be used multiple times"),
-    ("--help=3", "unexpected value '3' for '--help' found; no more were expected"),
+    ("run x y z", "unexpected argument 'x' found", "starhost run [OPTIONS]", None),
+    ("serve x", "unexpected argument 'x' found", "starhost serve [OPTIONS]", None),
+    ("key x y", "unexpected argument 'x' found", "starhost key", None),
+    ("serve --port -1", "unexpected argument '-1' found", "starhost serve [OPTIONS]", None),
+    ("serve --prt 1", "unexpected argument '--prt' found", "starhost serve --port <N>", "a similar argument exists: '--port'"),
+    ("--nix", "unexpected argument '--nix' found", "starhost [OPTIONS] [COMMAND]", None),
+    ("x", "unrecognized subcommand 'x'", "starhost [OPTIONS] [COMMAND]", None),
+    ("serves", "unrecognized subcommand 'serves'", "starhost [OPTIONS] [COMMAND]", "a similar subcommand exists: 'serve'"),
+    ("nonsense --help", "unrecognized subcommand 'nonsense'", "starhost [OPTIONS] [COMMAND]", None),
+    ("--bound", "a value is required for '--bound <N>' but none was supplied", None, None),
+    ("--bound 1 --bound 2", "the argument '--bound <N>' cannot be used multiple times", "starhost [OPTIONS] [COMMAND]", None),
+    ("--help=3", "unexpected value '3' for '--help' found; no more were expected", "starhost --help", None),
+    ("compact x", "the following required arguments were not provided:\n  <NEW>", "starhost compact <OLD> <NEW>", None),
+    ("compact x y z", "unexpected argument 'z' found", "starhost compact [OPTIONS] <OLD> <NEW>", None),
 ]
 
 # The greatest numbers and the least.
@@ -217,7 +248,11 @@ class Program:
         """Runs it to its end."""
         given = {"input": text} if stdin is None else {"stdin": stdin}
         ended = subprocess.run([self.path, *words.split()], stdout=stdout, stderr=subprocess.PIPE, timeout=120, **given)
-        return Ended(ended.returncode, ended.stdout or b"", ended.stderr)
+        return Ended(ended.returncode, self.named(ended.stdout or b""), self.named(ended.stderr))
+
+    def named(self, told):
+        """What is told, by a program of the name `starhost`."""
+        return told.replace(b"Usage: starhost.bin", b"Usage: starhost")
 
     def at_terminal(self, words, text, stdout=subprocess.PIPE):
         """The same with a terminal for standard error."""
@@ -246,20 +281,34 @@ class Program:
             sys.exit(f"wrong: {what}: {ended} in place of {wanted}")
 
 
+def is_allowed(number):
+    """The line that refuses an option."""
+    return f"error: {number} isn't allowed; allowed is {ALLOWED[number.split()[0][2:]]}\n".encode()
+
+
+def told_of(why, usage, near):
+    """What clap tells of words that it refuses."""
+    parts = [f"error: {why}", *([f"  tip: {near}"] if near else []), *([f"Usage: {usage}"] if usage else []), "For more information, try '--help'."]
+    return "\n\n".join(parts).encode() + b"\n"
+
+
 def are_refused(program):
-    for number, command in PAST + ELSEWHERE:
+    for number, command in PAST + TOGETHER:
         words = f"{command} {number}"
-        program.expect(words, program.run(words), Ended(2, b"", f"error: {number} isn't allowed".encode() + ALLOWED))
+        program.expect(words, program.run(words), Ended(2, b"", is_allowed(number)))
     # the first part in the order of the options is told, whatever stands first in the line
     words = "replay --workers x --cells 0"
-    program.expect(words, program.run(words), Ended(2, b"", b"error: --cells 0 isn't allowed" + ALLOWED))
-    for words in ("serve x", "key x y", "x", "compact", "compact x"):
-        told = words.split()[0] if words in ("x", "compact", "compact x") else "x"
-        wanted = f"error: the word {told} isn't allowed".encode() + ALLOWED
-        program.expect(words, program.run(words), Ended(2, b"", wanted))
-    program.expect("serves", program.run("serves"), Ended(2, b"", b"error: the word serves isn't allowed" + ALLOWED))
-    for words, why in UNREAD:
-        program.expect(words, program.run(words), Ended(2, b"", f"error: {why}".encode() + ALLOWED))
+    program.expect(words, program.run(words), Ended(2, b"", is_allowed("--cells 0")))
+    for option, command in ELSEWHERE:
+        words = f"{command} {option}"
+        ended = program.run(words)
+        why = f"error: unexpected argument '{option.split()[0]}' found\n".encode()
+        program.expect(words, (ended.status, ended.out, ended.errors.startswith(why)), (2, b"", True))
+    for options, command in IN_FRONT:
+        words, first = f"{options} {command}", " ".join(options.split()[:2])
+        program.expect(words, program.run(words), Ended(2, b"", f"error: {first} has to stand behind the command\n".encode()))
+    for words, why, usage, near in UNREAD:
+        program.expect(words, program.run(words), Ended(2, b"", told_of(why, usage, near)))
 
 
 def are_taken(program):
@@ -272,14 +321,20 @@ def are_taken(program):
 
 
 def are_answered(program):
-    with open(HELP, "rb") as file:
-        told = file.read()
-    for words, out in [("--help", told), ("-h", told), ("--version", b"starhost 0.1\n"), ("-V", b"starhost 0.1\n")]:
-        program.expect(words, program.run(words, LINES), Ended(0, out, b""))
+    """The help of the program and of each command is the stored one, which fits into a terminal."""
+    for path in sorted(HELPS.iterdir()):
+        text = path.read_text()
+        longest = max(len(line) for line in text.splitlines())
+        program.expect(f"the longest line of {path.name} within 100", longest <= 100, True)
+        command = "" if path.stem == "starhost" else path.stem
+        for words in (f"{command} --help", f"{command} -h"):
+            program.expect(words, program.run(words, LINES), Ended(0, text.encode(), b""))
+    for words in ("--version", "-V"):
+        program.expect(words, program.run(words, LINES), Ended(0, b"starhost 0.1\n", b""))
 
 
 def faults_are_told(program):
-    folder = os.open(HELP.parent, os.O_RDONLY)
+    folder = os.open(HELPS, os.O_RDONLY)
     program.expect("read failed", program.run("run", stdin=folder), Ended(1, b"", b"fault: read failed\n"))
     program.expect("read failed, of a replay", program.run("replay", stdin=folder), Ended(1, b"", b"fault: read failed\n"))
     os.close(folder)
