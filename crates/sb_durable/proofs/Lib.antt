@@ -36,3 +36,4 @@ mod Volumes
 mod RowJournals
 mod VolumeLives
 mod Journals
+mod Needs

@@ -30,3 +30,4 @@ pub mod VolumeLives
 pub mod RowJournals
 pub mod JournaledRuns
 pub mod JournalFaults
+pub mod SegmentNeeds

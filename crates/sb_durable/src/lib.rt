@@ -27,6 +27,7 @@ mod replay;
 mod row_journal;
 mod run;
 pub mod segment;
+mod segment_needs;
 mod system_file;
 
 pub use cell_restart::restart;
@@ -48,5 +49,6 @@ pub use recorder::Recorder;
 pub use replay::{PlayError, PlayFault, Played, Progress, play};
 pub use row_journal::RowJournal;
 pub use run::{Recording, run_recorded};
+pub use segment_needs::SegmentNeeds;
 pub use sqlite_disk::{Disk, Start, Wary};
 pub use system_file::{Syncing, SystemFile};
