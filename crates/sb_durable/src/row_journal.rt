@@ -2,18 +2,22 @@
 //! committed.
 ghost use Rattle.std.specs.Prelude.{◌≡◌, ◌⊎◌, ◌≤◌, ◌^◌, ◌++◌, ◌↔◌, [], ◌∷◌, List, ℕ, length, IfOk, IfErr, OnOk, OnErr, IsTrue};
 ghost use Rattle.sqlite_disk.specs.Disk.{Only};
-ghost use Rattle.sb_durable.specs.Head.{IsUnbegun};
+ghost use Rattle.sb_durable.specs.Head.{IsLeft, IsUnbegun};
 ghost use Rattle.sb_durable.specs.Records.{Entry, entry_of};
 ghost use Rattle.sb_durable.specs.Row.{Filed, IsRow, HaveSettings, AreLeft, all_contents};
-ghost use Rattle.sb_durable.specs.Segment.{HasAll, IsSpent, device_of, head_of};
+ghost use Rattle.sb_durable.specs.RowJournal.{settings_of};
+ghost use Rattle.sb_durable.specs.Segment.{EndsWithin, HasAll, IsSpent, device_of, head_of};
 
-use crate::Record;
 use crate::record::record_bytes;
 use crate::recovery::MAX_CONTENT;
-use crate::segment::{Segment, SegmentError};
+use crate::segment::{RowError, RowReader, Segment, SegmentError};
+use crate::{Head, Record};
 use sqlite_disk::Disk;
 use std::alloc::Global;
 use std::mem;
+
+/// The number of a journal's first segment.
+pub(crate) const FIRST_NUMBER: u64 = 1;
 
 pub struct RowJournal<D: Disk> {
     alloc: Global,
@@ -35,21 +39,78 @@ impl<D: Disk + Drop> Drop for RowJournal<D> {
 impl<D: Disk> RowJournal<D> {
     ghost use Rattle.sb_durable.specs.declared.journal_header.Head.{Head as TheHead};
     ghost use Rattle.sb_durable.specs.Journal.{all_of, contents_of};
-    ghost use Rattle.sb_durable.specs.RowJournal.{KeepRow, settings_of};
+    ghost use Rattle.sb_durable.specs.RowJournal.{KeepRow};
     ghost use Rattle.sb_durable.specs.RowJournals.{HasRow, disk_of, newest_of};
-    ghost use Rattle.sb_durable.specs.RowReaders.{filed};
+    ghost use Rattle.sb_durable.specs.RowReaders.{HasRead, filed, last_of};
 
     /// A journal whose newest segment is this one. Nothing is staged.
     pub fn over(alloc: Global, newest: Segment<D>) -> RowJournal<D>
         ensures has { (head : TheHead) (older : List Filed) (contents : List (List ℕ)) (batches : List (List Entry)) → HasAll D.Disk.seen D.Disk.may_leave newest contents
             → IsRow (older ++ filed newest contents ∷ []) → HaveSettings (settings_of head) (older ++ filed newest contents ∷ [])
             → contents_of batches ≡ all_contents (older ++ filed newest contents ∷ []) → HasRow D.Disk.seen D.Disk.may_leave result head older (all_of batches) [] }
+        ensures newest { newest_of result ≡ newest }
         ensures disk { disk_of result ≡ device_of newest }
     {
         RowJournal {
             alloc,
             newest,
             waiting: Vec::new(alloc),
+        }
+    }
+
+    /// A journal over the files of a folder, which were read up to the newest. What a crash may have left behind the last
+    /// block is cut off. It may crash too. Error: the file ends within a block, or the segment's.
+    pub fn open(alloc: Global, reader: RowReader<D>) -> Result<RowJournal<D>, (RowError, D)>
+        ensures ok { IfOk result (λ journal. IsTrue (D.Disk.is_clean (disk_of journal)) → (head : TheHead) (older : List Filed) (contents : List (List ℕ)) (batches : List (List Entry))
+            → HasRead D.Disk.seen reader (settings_of head) older contents → contents_of batches ≡ all_contents (older ++ filed (last_of reader) contents ∷ [])
+            → HasRow D.Disk.seen D.Disk.may_leave journal head older (all_of batches) []) }
+
+        ensures newest { IfOk result (λ journal. head_of (newest_of journal) ≡ head_of (last_of reader)) }
+
+        // A file that ends within a block is refused, and left as it is.
+        ensures whole { IfOk result (λ journal. IsTrue (D.Disk.is_clean (disk_of journal)) → EndsWithin D.Disk.seen (last_of reader) → ⊥) }
+        ensures ends_within { IfErr result (λ e. e.0 ≡ RowError.EndsWithin → (D.Disk.seen e.1 ≡ D.Disk.seen (device_of (last_of reader)))
+            × ((file : List ℕ) → D.Disk.may_leave e.1 file → D.Disk.may_leave (device_of (last_of reader)) file)
+            × (IsTrue (D.Disk.is_clean e.1) → EndsWithin D.Disk.seen (last_of reader))) }
+
+        // Where a crash left the files, a crash at any moment of the call leaves them with the same records.
+        ensures any_moment { IfOk result (λ journal. IsTrue (D.Disk.is_clean (disk_of journal)) → Only (D.Disk.seen (device_of (last_of reader))) (D.Disk.may_leave (device_of (last_of reader)))
+            → (head : TheHead) (older : List Filed) (contents : List (List ℕ)) (batches : List (List Entry))
+            → HasRead D.Disk.seen reader (settings_of head) older contents → contents_of batches ≡ all_contents (older ++ filed (last_of reader) contents ∷ [])
+            → (files : List (List ℕ)) → AreLeft older files → IsLeft (head_of (last_of reader)) contents (D.Disk.seen (device_of (last_of reader)))
+            → (file : List ℕ) → D.Disk.may_leave (disk_of journal) file → KeepRow head (all_of batches) (files ++ file ∷ [])) }
+        ensures any_moment_err { IfErr result (λ e. IsTrue (D.Disk.is_clean e.1) → Only (D.Disk.seen (device_of (last_of reader))) (D.Disk.may_leave (device_of (last_of reader)))
+            → (head : TheHead) (older : List Filed) (contents : List (List ℕ)) (batches : List (List Entry))
+            → HasRead D.Disk.seen reader (settings_of head) older contents → contents_of batches ≡ all_contents (older ++ filed (last_of reader) contents ∷ [])
+            → (files : List (List ℕ)) → AreLeft older files → IsLeft (head_of (last_of reader)) contents (D.Disk.seen (device_of (last_of reader)))
+            → (file : List ℕ) → D.Disk.may_leave e.1 file → KeepRow head (all_of batches) (files ++ file ∷ [])) }
+    {
+        match reader.finish() {
+            Ok(newest) => Ok(RowJournal::over(alloc, newest)),
+            Err(error) => Err(error),
+        }
+    }
+
+    /// A new journal with these settings: its first segment is begun in a file that hasn't begun. It may crash too. Error:
+    /// as of `Segment::begin`.
+    pub fn begin(alloc: Global, device: D, head: Head) -> Result<RowJournal<D>, (SegmentError, D)>
+        requires { IsTrue (D.Disk.is_usable device) }
+        ensures ok { IfOk result (λ journal. IsTrue (D.Disk.is_clean (disk_of journal)) → HasRow D.Disk.seen D.Disk.may_leave journal head [] [] []) }
+
+        // A file that has begun, or that is of another program, is left as it is.
+        ensures kept { IfErr result (λ e. IsTrue (D.Disk.is_clean e.1) → (IsUnbegun (D.Disk.seen device) → ⊥)
+            → (D.Disk.seen e.1 ≡ D.Disk.seen device) × ((file : List ℕ) → D.Disk.may_leave e.1 file → D.Disk.may_leave device file)) }
+
+        // A crash at any moment of the call leaves a folder that keeps no record.
+        ensures any_moment { IfOk result (λ journal. IsTrue (D.Disk.is_clean (disk_of journal)) → Only (D.Disk.seen device) (D.Disk.may_leave device) → IsUnbegun (D.Disk.seen device)
+            → (file : List ℕ) → D.Disk.may_leave (disk_of journal) file → KeepRow head [] (file ∷ [])) }
+        ensures any_moment_err { IfErr result (λ e. IsTrue (D.Disk.is_clean e.1) → Only (D.Disk.seen device) (D.Disk.may_leave device) → IsUnbegun (D.Disk.seen device)
+            → (file : List ℕ) → D.Disk.may_leave e.1 file → KeepRow head [] (file ∷ [])) }
+    {
+        let settings = settings_bytes(head);
+        match Segment::begin(alloc, device, FIRST_NUMBER, 0, &settings) {
+            Ok(newest) => Ok(RowJournal::over(alloc, newest)),
+            Err(error) => Err(error),
         }
     }
 
@@ -142,4 +203,13 @@ impl<D: Disk> RowJournal<D> {
         } = self;
         newest.close()
     }
+}
+
+/// The settings of a journal, which each of its segments has: four bytes of tenants, and eight of the bound.
+pub(crate) fn settings_bytes(head: Head) -> [u8; 12]
+    ensures { result ≡ settings_of head }
+{
+    let [t0, t1, t2, t3] = head.tenants.to_be_bytes();
+    let [b0, b1, b2, b3, b4, b5, b6, b7] = head.bound.to_be_bytes();
+    [t0, t1, t2, t3, b0, b1, b2, b3, b4, b5, b6, b7]
 }
