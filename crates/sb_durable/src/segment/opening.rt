@@ -35,6 +35,7 @@ impl<D: Disk> Segment<D> {
             → (head : Head) (contents : List (List ℕ)) (file : List ℕ) (n : ℕ) → Stands head contents file → D.Disk.seen device ≡ take n file → ⊥) }
         ensures not_begun { IfErr result (λ e. e.0 ≡ SegmentError.NotBegun → IsTrue (D.Disk.is_clean e.1)
             → (head : Head) (contents : List (List ℕ)) → Stands head contents (D.Disk.seen device) → ⊥) }
+        ensures begun { IfOk result (λ segment. IsTrue (D.Disk.is_clean (device_of segment)) → IsUnbegun (D.Disk.seen device) → ⊥) }
         ensures unbegun { IfErr result (λ e. e.0 ≡ SegmentError.NotBegun → IsTrue (D.Disk.is_clean e.1) → IsUnbegun (D.Disk.seen device)) }
         ensures cut_short { IfErr result (λ e. e.0 ≡ SegmentError.CutShort → IsTrue (D.Disk.is_clean e.1) → IsCutHead (D.Disk.seen device)) }
         ensures not_cut { IfErr result (λ e. e.0 ≡ SegmentError.CutShort → IsTrue (D.Disk.is_clean e.1)
@@ -155,6 +156,7 @@ fn survey<D: Disk>(alloc: Global, disk: &mut D) -> Result<(Beginning, Place), Se
         → (head : Head) (contents : List (List ℕ)) (tail : List ℕ) → Stands head contents (D.Disk.seen disk.old ++ tail) → ⊥) }
     ensures not_begun { IfErr result (λ e. e ≡ SegmentError.NotBegun → IsTrue (D.Disk.is_clean disk.new)
         → (head : Head) (contents : List (List ℕ)) → Stands head contents (D.Disk.seen disk.old) → ⊥) }
+    ensures begun { IfOk result (λ found. IsTrue (D.Disk.is_clean disk.new) → IsUnbegun (D.Disk.seen disk.old) → ⊥) }
     ensures unbegun { IfErr result (λ e. e ≡ SegmentError.NotBegun → IsTrue (D.Disk.is_clean disk.new) → IsUnbegun (D.Disk.seen disk.old)) }
     ensures cut_short { IfErr result (λ e. e ≡ SegmentError.CutShort → IsTrue (D.Disk.is_clean disk.new) → IsCutHead (D.Disk.seen disk.old)) }
     ensures foreign { IfErr result (λ e. e ≡ SegmentError.NotASegment → IsTrue (D.Disk.is_clean disk.new) → IsForeign (D.Disk.seen disk.old)) }

@@ -1,12 +1,12 @@
 //! The segments of a folder, read one after the other: each goes on where the one before it ends. Nothing is written.
 ghost use Rattle.std.specs.Prelude.{◌≡◌, ◌++◌, [], ◌∷◌, List, ℕ, IfOk, IfErr, OnOk, OnErr, IsTrue};
 ghost use Rattle.sqlite_disk.specs.Disk.{Only};
-ghost use Rattle.sb_durable.specs.Head.{Head, IsHead, IsLeft, Stands};
+ghost use Rattle.sb_durable.specs.Head.{Head, IsHead, IsLeft, IsUnbegun, Stands};
 ghost use Rattle.sb_durable.specs.Row.{Filed, IsNext};
 ghost use Rattle.sb_durable.specs.RowFaults.{IsRefused, Tells, TellsFirst};
 ghost use Rattle.sb_durable.specs.declared.segment.error.SegmentError.{SegmentError as TheError};
 ghost use Rattle.sb_durable.specs.declared.segment.row.RowFault.{RowFault as TheFault};
-ghost use Rattle.sb_durable.specs.Segment.{EndsWithin, HasAll, IsBehind, Reads, Gives, device_of, end_of, head_of};
+ghost use Rattle.sb_durable.specs.Segment.{BindsAll, EndsWithin, HasAll, IsBehind, Knows, Reads, Gives, device_of, end_of, head_of};
 
 use crate::segment::{Place, RowFault, Segment, SegmentError};
 use sqlite_disk::Disk;
@@ -33,7 +33,7 @@ pub struct RowReader<D: Disk> {
 }
 
 impl<D: Disk> RowReader<D> {
-    ghost use Rattle.sb_durable.specs.RowReaders.{HasRead, BindsRow, filed, last_of};
+    ghost use Rattle.sb_durable.specs.RowReaders.{HasRead, BindsRow, StaysRead, filed, last_of};
 
     /// Reads the oldest file of a folder, which is to have this number and these settings. Error: the segment's, or what of
     /// its head differs.
@@ -49,7 +49,10 @@ impl<D: Disk> RowReader<D> {
         ensures number { IfOk result (λ reader. (head_of (last_of reader)).number ≡ number) }
         ensures fits { IfOk result (λ reader. IsHead (head_of (last_of reader))) }
 
+        ensures begun { IfOk result (λ reader. IsTrue (D.Disk.is_clean (device_of (last_of reader))) → IsUnbegun (D.Disk.seen device) → ⊥) }
+
         // What was read bears its digests, whatever the disk did.
+        ensures bears { IfOk result (λ reader. BindsAll (last_of reader)) }
         ensures binds { IfOk result (λ reader. BindsRow reader []) }
 
         ensures refused { IfErr result (λ e. (error : TheError) → e.0 ≡ RowError.Segment error → IsTrue (D.Disk.is_clean e.1) → IsRefused error (D.Disk.seen device)) }
@@ -79,12 +82,17 @@ impl<D: Disk> RowReader<D> {
         ensures ok { IfOk result (λ full. IsTrue (D.Disk.is_clean (device_of (last_of self.new))) → (head : Head) (others : List (List ℕ)) → Stands head others (D.Disk.seen device)
             → (settings : List ℕ) (older : List Filed) (contents : List (List ℕ)) → HasRead D.Disk.seen self.old settings older contents
             → (head_of (last_of self.new) ≡ head) × HasRead D.Disk.seen self.new settings (older ++ filed (last_of self.old) contents ∷ []) others) }
+        ensures knows { IfOk result (λ full. IsTrue (D.Disk.is_clean (device_of (last_of self.new))) → (head : Head) (others : List (List ℕ)) → Stands head others (D.Disk.seen device)
+            → (head_of (last_of self.new) ≡ head) × Knows D.Disk.seen (last_of self.new) others) }
         ensures next { IfOk result (λ full. (contents : List (List ℕ)) → IsBehind (head_of (last_of self.old)) contents (end_of (last_of self.old))
             → IsNext (filed (last_of self.old) contents) (head_of (last_of self.new))) }
         ensures full { IfOk result (λ full. full ≡ device_of (last_of self.old)) }
         ensures fits { IfOk result (λ full. IsHead (head_of (last_of self.new))) }
 
+        ensures begun { IfOk result (λ full. IsTrue (D.Disk.is_clean (device_of (last_of self.new))) → IsUnbegun (D.Disk.seen device) → ⊥) }
+
         // What was read bears its digests, whatever the disks did.
+        ensures bears { IfOk result (λ full. BindsAll (last_of self.new)) }
         ensures binds { IfOk result (λ full. (older : List Filed) (bound : BindsRow self.old older)
             → BindsRow self.new (older ++ filed (last_of self.old) bound.contents ∷ [])) }
 
@@ -115,8 +123,7 @@ impl<D: Disk> RowReader<D> {
 
     /// The place of the last segment's first content.
     pub fn first_place(&self) -> Place
-        ensures { (settings : List ℕ) (older : List Filed) (contents : List (List ℕ)) → HasRead D.Disk.seen self.now settings older contents
-            → IsBehind (head_of (last_of self.now)) [] result }
+        ensures { BindsAll (last_of self.now) → IsBehind (head_of (last_of self.now)) [] result }
     {
         self.last.first_place()
     }
@@ -128,15 +135,10 @@ impl<D: Disk> RowReader<D> {
         content: &mut Vec<u8>,
     ) -> Result<Option<Place>, SegmentError>
         ensures bears { IfOk result (λ next. Gives (end_of (last_of self.old)) place content.new.items next) }
-        ensures found { IfOk result (λ next. IsTrue (D.Disk.is_clean (device_of (last_of self.new))) → (settings : List ℕ) (older : List Filed) (front back : List (List ℕ))
-            → HasRead D.Disk.seen self.old settings older (front ++ back) → IsBehind (head_of (last_of self.old)) front place
+        ensures found { IfOk result (λ next. IsTrue (D.Disk.is_clean (device_of (last_of self.new))) → (front back : List (List ℕ))
+            → Knows D.Disk.seen (last_of self.old) (front ++ back) → IsBehind (head_of (last_of self.old)) front place
             → Reads (head_of (last_of self.old)) front back content.new.items next) }
-        ensures same { (settings : List ℕ) (older : List Filed) (contents : List (List ℕ)) → HasRead D.Disk.seen self.old settings older contents
-            → HasRead D.Disk.seen self.new settings older contents }
-        ensures head { (head_of (last_of self.new) ≡ head_of (last_of self.old)) × (end_of (last_of self.new) ≡ end_of (last_of self.old)) }
-        ensures seen { (D.Disk.seen (device_of (last_of self.new)) ≡ D.Disk.seen (device_of (last_of self.old)))
-            × ((file : List ℕ) → D.Disk.may_leave (device_of (last_of self.new)) file → D.Disk.may_leave (device_of (last_of self.old)) file) }
-        ensures clean { IsTrue (D.Disk.is_clean (device_of (last_of self.new))) → IsTrue (D.Disk.is_clean (device_of (last_of self.old))) }
+        ensures same { StaysRead D.Disk.seen D.Disk.may_leave D.Disk.is_clean self.old self.new }
     {
         self.last.read(place, content)
     }

@@ -3,6 +3,7 @@ use Rattle.sb_durable.specs.SegmentBlocks.{GoOn}
 use Rattle.sb_durable.specs.Head.{IsOpened, IsUnbegun, head_bytes}
 use Rattle.sb_durable.specs.Segment.{head_in}
 use Rattle.sb_durable.specs.declared.segment.place.Place.{Place}
+use Rattle.sb_durable.proofs.Heads.{has_begun}
 use Rattle.sb_durable.proofs.Opened.{opened_end, opened_cut}
 use Rattle.sb_durable.proofs.segment.opening.survey.Goals as goal
 
@@ -36,3 +37,8 @@ returns-in-Err-find_end-clause-cut g c is clean head contents tail stands =
     let bears = c.in-Ok.ensures.bears in
     opened_cut file there.0 _ first bears.1 (subst (λ (f : List ℕ). IsOpened (head_bytes (head_in c.in-Ok.beginning) ++ there.0) f) c.len.ensures.seen there.1) (omega (arith, c.len-2.ensures, c.in-Ok.beginning.settings.ok.0)) bears.0 head contents tail stands
     (λ found goes. c.in-Err-find_end.ensures.damaged is clean found (subst (λ f. GoOn first.chain found (drop first.at f)) (sym same) goes))
+
+pub returns-in-Ok-find_end-clause-begun : goal.returns-in-Ok-find_end-clause-begun
+returns-in-Ok-find_end-clause-begun g c clean unbegun =
+    let there = c.in-Ok.ensures.found (c.find_end.ensures.clean clean) in
+    has_begun (head_in c.in-Ok.beginning) there.0 (g.D.Disk.seen c.args.disk.now) c.in-Ok.ensures.bears.1 (subst (λ (f : List ℕ). IsOpened (head_bytes (head_in c.in-Ok.beginning) ++ there.0) f) c.len.ensures.seen there.1) unbegun

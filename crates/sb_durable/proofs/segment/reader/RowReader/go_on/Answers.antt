@@ -24,6 +24,13 @@ returns-in-Ok-check_next-clause-ok g c clean head others stands settings older c
           (subst (λ s. IsNext (filed c.args.self.now.last contents) (head_of s)) (sym after) next),
     )
 
+pub returns-in-Ok-check_next-clause-knows : goal.returns-in-Ok-check_next-clause-knows
+returns-in-Ok-check_next-clause-knows g c clean head others stands =
+    let disk = g.D.Disk in
+    let after = c.replace-full.ensures.after in
+    let found = c.in-Ok.ensures.ok (subst (λ s. IsTrue (disk.is_clean (device_of s))) after clean) head others stands in
+    (ap (λ s. head_of s) after ∙ found.0, subst (λ s. Knows disk.seen s others) (sym after) found.1)
+
 pub returns-in-Ok-check_next-clause-binds : goal.returns-in-Ok-check_next-clause-binds
 returns-in-Ok-check_next-clause-binds g c older bound =
     let after = c.replace-full.ensures.after in
@@ -37,3 +44,6 @@ returns-in-Err-check_next-clause-fault g c fault same clean head contents stands
     let found = c.in-Ok.ensures.ok (subst (λ d. IsTrue (g.D.Disk.is_clean d)) c.close-in-Err-check_next.ensures clean) head contents stands in
     subst (λ f. Tells f (head_of own) own.end.chain head) is
     (subst (λ (h : Head). Tells c.in-Err-check_next.fault (head_of own) own.end.chain h) found.0 c.in-Err-check_next.ensures.err)
+
+pub returns-in-Ok-check_next-clause-begun : goal.returns-in-Ok-check_next-clause-begun
+returns-in-Ok-check_next-clause-begun g c clean = c.in-Ok.ensures.begun (subst (λ s. IsTrue (g.D.Disk.is_clean (device_of s))) c.replace-full.ensures.after clean)
