@@ -10,6 +10,11 @@ pub bytes-push : (entries : List Entry) (entry : Entry) → bytes_of (entries ++
 bytes-push [] entry = append-nil (entry_bytes entry)
 bytes-push (e ∷ entries) entry = ap (λ (l : List ℕ). entry_bytes e ++ l) (bytes-push entries entry) ∙ sym (append_assoc (entry_bytes e) (bytes_of entries) (entry_bytes entry))
 
+-- one record more is read
+pub bytes_more : (batch : List ℕ) (read : List Entry) (entry : Entry) (left behind : List ℕ) → batch ≡ bytes_of read ++ left → left ≡ entry_bytes entry ++ behind → batch ≡ bytes_of (read ++ entry ∷ []) ++ behind
+bytes_more batch read entry left behind is found =
+    is ∙ ap (λ (l : List ℕ). bytes_of read ++ l) found ∙ sym (append_assoc (bytes_of read) (entry_bytes entry) behind) ∙ ap (λ (l : List ℕ). l ++ behind) (sym (bytes-push read entry))
+
 pub none_waits : (waiting : List Entry) → bytes_of waiting ≡ [] → waiting ≡ []
 none_waits [] none = refl
 none_waits (e ∷ waiting) none = absurd (omega (arith, ap length none, length-append (entry_bytes e) (bytes_of waiting)))

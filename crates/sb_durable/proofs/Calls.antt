@@ -101,6 +101,7 @@ module _ {S : Type 0} (seen : S → Session) (sessions : List (Option S)) (stubs
   refused_by (fault.NotRenewed why) is none un = (is, all_closed none)
   refused_by fault.TrailFull is none un = (is, all_closed none)
   refused_by (fault.Journal why) is none un = absurd un
+  refused_by (fault.Segment why) is none un = absurd un
   refused_by fault.NoRecord is none un = absurd un
   refused_by fault.NoTenant is none un = absurd un
   refused_by fault.NoSession is none un = absurd un

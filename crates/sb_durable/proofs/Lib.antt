@@ -32,6 +32,7 @@ mod Begun
 mod CutFiles
 mod Rows
 mod RowReaders
+mod RowReplays
 mod Volumes
 mod RowJournals
 mod VolumeLives

@@ -24,6 +24,7 @@ pub mod SegmentEnds
 pub mod Row
 pub mod RowFaults
 pub mod RowReaders
+pub mod RowReplays
 pub mod VolumeRecords
 pub mod RowJournal
 pub mod VolumeLives

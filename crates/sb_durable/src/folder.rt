@@ -1,8 +1,10 @@
 //! The folder of a journal: a file for each segment, which is named by its number.
 ghost use Rattle.std.specs.Prelude.{false, IsTrue, IfOk};
 ghost use Rattle.sb_durable.specs.File.{may_be_used};
+ghost use Rattle.sb_durable.specs.Folders.{FollowOn};
 
 use crate::file::File;
+use crate::replay::PlayFault;
 use crate::segment::{PREFIX, RowError, check_row, number_in};
 use crate::sync_folder;
 use crate::system_file::{Syncing, SystemFile};
@@ -35,7 +37,20 @@ pub enum FolderError {
     #[error("journal.{0:06} is no file")]
     NotAFile(u64),
     #[error("journal.{number:06}: {why}")]
-    Refused { number: u64, why: RowError },
+    Refused {
+        number: u64,
+        why: RowError,
+    },
+    /// Its head has other settings than those of a journal.
+    #[error("journal.{0:06} has no settings of a journal")]
+    NoSettings(u64),
+    /// A record of it can't be read or played. Records are counted from 1, over all segments.
+    #[error("journal.{number:06}, record {record}: {why}")]
+    Unplayed {
+        number: u64,
+        record: u64,
+        why: PlayFault,
+    },
 }
 
 impl From<io::Error> for FolderError {
@@ -92,7 +107,9 @@ impl<'p> Folder<'p> {
         &self,
         rt: &R,
         alloc: Global,
-    ) -> Result<Vec<u64>, FolderError> {
+    ) -> Result<Vec<u64>, FolderError>
+        ensures { IfOk result (λ numbers. FollowOn numbers.items) }
+    {
         let mut numbers = Vec::new(alloc);
         for entry in fs::read_dir(rt, self.path)? {
             let entry = entry?;

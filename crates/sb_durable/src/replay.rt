@@ -7,6 +7,7 @@ ghost use Rattle.sb_durable.specs.Replays.{LeavesPlayed, PlaysAll};
 ghost use Rattle.sb_durable.specs.Restart.{AreRecords};
 
 use crate::record_player::Player;
+use crate::segment::SegmentError;
 use crate::{Disk, Journal, JournalError, Record, RecordedReach, first_record};
 use sb_backup::RenewalFault;
 use sb_desk::{AttachError, Stub};
@@ -37,6 +38,8 @@ pub struct Played {
 pub enum PlayFault {
     #[error("{0}")]
     Journal(JournalError),
+    #[error("{0}")]
+    Segment(SegmentError),
     /// Its bytes are no record.
     #[error("it is damaged")]
     NoRecord,
@@ -170,7 +173,7 @@ pub(crate) fn play_all<T: Wait, S: Plays, D: Disk, P: Progress>(
 }
 
 /// Replays a batch of records, and counts them.
-fn play_batch<T: Wait, S: Plays>(
+pub(crate) fn play_batch<T: Wait, S: Plays>(
     rt: &T,
     alloc: Global,
     player: &mut S,
@@ -178,7 +181,8 @@ fn play_batch<T: Wait, S: Plays>(
     batch: &[u8],
 ) -> Result<(), PlayFault>
     ensures { OnOk result ((played : List Entry) × PlaysAll S.plays player.old played player.new
-        × (records.new ≡ records.old + length played) × ((entries : List Entry) → AreRecords entries → batch.now ≡ bytes_of entries → played ≡ entries)) }
+        × (records.new ≡ records.old + length played) × ((entries : List Entry) → AreRecords entries → batch.now ≡ bytes_of entries → played ≡ entries)
+        × (batch.now ≡ bytes_of played)) }
 {
     let mut left = batch;
     while !left.is_empty() {

@@ -8,6 +8,7 @@ abbrev pub invariant-loop-left : goal.invariant-loop-left
 invariant-loop-left g l =
     (played : List Entry) × PlaysAll g.S.Plays.plays l.fn.player played l.player × (l.records ≡ l.fn.records + length played)
     × ((entries : List Entry) → AreRecords entries → l.batch ≡ bytes_of entries → (back : List Entry) × (entries ≡ played ++ back) × AreRecords back × (l.left ≡ bytes_of back))
+    × (l.batch ≡ bytes_of played ++ l.left)
 
 abbrev pub decreases-loop-left : goal.decreases-loop-left
 decreases-loop-left g l = length l.left
