@@ -35,6 +35,7 @@ mod RowReaders
 mod RowReplays
 mod Volumes
 mod RowJournals
+mod BatchJournals
 mod VolumeLives
 mod Journals
 mod Needs

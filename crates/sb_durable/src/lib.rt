@@ -1,6 +1,7 @@
 //! What was answered is there after a restart: the trails of a host's tenants, recorded in a journal and played from it.
 #![tactic(auto)]
 
+mod batch_journal;
 mod cell_restart;
 mod compaction;
 mod entry_reader;
@@ -35,6 +36,7 @@ pub mod segment;
 mod segment_needs;
 mod system_file;
 
+pub use batch_journal::BatchJournal;
 pub use cell_restart::restart;
 pub use compaction::compact;
 pub use error::JournalError;

@@ -185,6 +185,19 @@ impl<D: Disk> RowJournal<D> {
         }
     }
 
+    /// Whatever a crash leaves of the files as they are has the records.
+    pub fn is_kept(&self)
+        ensures { (head : TheHead) (older : List Filed) (entries waiting : List Entry) → HasRow D.Disk.seen D.Disk.may_leave self.now head older entries waiting
+            → (files : List (List ℕ)) → AreLeft older files → (file : List ℕ) → D.Disk.may_leave (disk_of self.now) file → KeepRow head entries (files ++ file ∷ []) }
+    {}
+
+    /// How many more bytes can be staged.
+    pub fn room(&self) -> usize
+        ensures { result ≤ 2 ^ 20 }
+    {
+        MAX_CONTENT - self.waiting.len()
+    }
+
     /// True if a write or a sync has failed. Then nothing more is written.
     pub fn is_spent(&self) -> bool
         ensures { IsTrue result ↔ IsSpent (newest_of self.now) }
