@@ -3,9 +3,9 @@
 
     python3 -m bench.documents.printed [PROGRAM]
 
-PROGRAM is crates/starhost/out/starhost where no word is given. Of README.md, docs/TOUR.md, docs/RECIPES.md, docs/COMMANDS.md,
-docs/OPERATING.md and docs/SEVERAL_HOSTS.md each block is played, and each command line that stands in backticks; of CLIENTS
-it is bench/documents/clients.py that does. A block that nothing here plays is told, and so is a row of what the language lacks
+PROGRAM is crates/starhost/out/starhost where no word is given. Of README and of FIRST_RULES, TOUR, RECIPES, COMMANDS, OPERATING and
+SEVERAL_HOSTS in docs/ each block is played, and each command line that stands in backticks; of CLIENTS it is
+bench/documents/clients.py that does. A block that nothing here plays is told, and so is a row of what the language lacks
 without a line that shows it. `nc`, HAProxy and systemd-analyze are used where they are installed, and it is said where
 they aren't.
 """
@@ -23,7 +23,7 @@ import tempfile
 
 from bench.harness import TOP, program_of
 
-PAGES = ("README.md", "docs/TOUR.md", "docs/RECIPES.md", "docs/COMMANDS.md", "docs/OPERATING.md", "docs/SEVERAL_HOSTS.md")
+PAGES = ("README.md", "docs/FIRST_RULES.md", "docs/TOUR.md", "docs/RECIPES.md", "docs/COMMANDS.md", "docs/OPERATING.md", "docs/SEVERAL_HOSTS.md")
 BUILT = "crates/starhost/out/starhost"
 BLOCK = re.compile(r"^```(\w*)\n(.*?)^```$", re.M | re.S)
 
@@ -100,10 +100,11 @@ class Player:
         self.session("README.md", self.example, "".join(wanted))
         self.played.add(text)
 
-    def recipes(self):
-        texts = [text for _, text in blocks_of("docs/RECIPES.md")]
+    def sessions(self, page):
+        """Blocks of lines, each with the block of its replies behind it."""
+        texts = [text for _, text in blocks_of(page)]
         for lines, wanted in zip(texts[::2], texts[1::2]):
-            self.session("docs/RECIPES.md", lines, wanted)
+            self.session(page, lines, wanted)
 
     def tour(self):
         texts = [text for kind, text in blocks_of("docs/TOUR.md") if not kind]
@@ -302,7 +303,8 @@ def main():
     player.readme()
     player.first_commands()
     player.tour()
-    player.recipes()
+    for page in ("docs/FIRST_RULES.md", "docs/RECIPES.md"):
+        player.sessions(page)
     player.lacks()
     player.operating()
     player.several_hosts()
