@@ -3,13 +3,14 @@
 from bench.harness.client import Client, Closed, connect, more_lines, read_all, read_lines, say
 from bench.harness.faults import file_size, library
 from bench.harness.patience import PATIENCE, expect, fail, need, tried, until
-from bench.harness.program import BUILT, TOP, program_of, run
+from bench.harness.program import BUILT, TOP, UNPROVED, is_unproved, program_of, run
 from bench.harness.server import Ended, Server, free_port
 
 __all__ = [
     "BUILT",
     "PATIENCE",
     "TOP",
+    "UNPROVED",
     "Client",
     "Closed",
     "Ended",
@@ -19,6 +20,7 @@ __all__ = [
     "fail",
     "file_size",
     "free_port",
+    "is_unproved",
     "library",
     "more_lines",
     "need",

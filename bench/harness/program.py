@@ -8,6 +8,15 @@ TOP = pathlib.Path(__file__).resolve().parents[2]
 BUILT = str(TOP / "crates/starhost/out/starhost")
 
 
+# set by ./check --quick: the programs were built without proofs, so they check while they run, and take more memory
+UNPROVED = "FILGWESHA_UNPROVED"
+
+
+def is_unproved():
+    """True if the programs check while they run."""
+    return os.environ.get(UNPROVED) == "1"
+
+
 def program_of(words):
     """The program that the first of these words names, or the one that the checks have built."""
     return os.path.abspath(words[0]) if words else BUILT
