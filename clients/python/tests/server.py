@@ -4,6 +4,7 @@ from __future__ import annotations
 
 import os
 import pathlib
+import socket
 import subprocess
 import sys
 import unittest
@@ -18,7 +19,9 @@ class Server:
     """A server on a free port."""
 
     def __init__(self, *words: str) -> None:
-        words = (PROGRAM, "serve", "--tenants", "256", *words)
+        with socket.create_server(("127.0.0.1", 0)) as free:
+            self.status = free.getsockname()[1]
+        words = (PROGRAM, "serve", "--tenants", "256", "--status", str(self.status), *words)
         self.process = subprocess.Popen(words, stdin=subprocess.DEVNULL, stdout=subprocess.PIPE, stderr=subprocess.DEVNULL, text=True)
         assert self.process.stdout
         self.port = int(self.process.stdout.readline().split()[1])
