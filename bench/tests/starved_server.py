@@ -5,6 +5,7 @@
 
 PROGRAM is crates/starhost/out/starhost where no word is given. Four trials, each told in one line:
 
+- each request for memory of a start is refused in turn: the server serves, or ends and tells that memory ran out;
 - each of N requests for memory (200, evenly spread) of a server is refused in turn while six clients are at work: it
   answers afterwards, ends well with status 0, and at most the connection whose request it was is closed, or the line is
   answered 91 or 92;
@@ -76,13 +77,18 @@ def work(server, clients=6):
     return closed, short
 
 
+def requests_of(server):
+    """How many requests a server made that is told to end, and ends well."""
+    status, last, log = server.end()
+    need(status == 0 and last.startswith("trails 16 steps"), f"status {status}: {log[-300:]}")
+    return int(log.split(" requests")[0].split()[-1])
+
+
 def count_requests(program, refuses):
     """How many requests a run without refusals makes."""
     server = starved(program, refuses=refuses)
     need(work(server) == (0, 0), "a run without refusals lacks something")
-    status, last, log = server.end()
-    need(status == 0 and last.startswith("trails 16 steps"), f"status {status}: {log[-300:]}")
-    return int(log.split(" requests")[0].split()[-1])
+    return requests_of(server)
 
 
 def is_served(server):
@@ -195,6 +201,19 @@ def few_threads(program, refuses, room):
     print(f"{len(servers)} servers with some of their threads: each serves, or ends and tells why")
 
 
+def begins(program, refuses):
+    """A server each of whose requests for memory at its start is refused in turn: it serves, or ends and tells why."""
+    requests, ended = requests_of(starved(program, refuses=refuses)), 0
+    for number in range(1, requests + 1):
+        status, last, log = end_of(starved(program, refuses=refuses, REFUSED=number), f"request {number} of a start")
+        if status == 0:
+            need(last.startswith("trails 16 steps"), f"request {number} of a start: {log[-300:]}")
+        else:
+            need(status == 1 and "fault: out of memory\n" in log, f"request {number} of a start: status {status}: {log[-300:]}")
+            ended += 1
+    print(f"each of {requests} requests of a start refused in turn: {ended} servers end for want of memory, the others serve")
+
+
 def main():
     words = argparse.ArgumentParser()
     words.add_argument("program", nargs="?", default=BUILT)
@@ -203,6 +222,7 @@ def main():
     with tempfile.TemporaryDirectory() as room:
         refuses = library("refuse", room)
         requests = count_requests(words.program, refuses)
+        begins(words.program, refuses)
         one_by_one(words.program, refuses, requests, words.many)
         for_a_while(words.program, refuses, requests)
         few_threads(words.program, refuses, room)

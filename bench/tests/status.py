@@ -6,7 +6,7 @@
 PROGRAM is crates/starhost/out/starhost where no word is given. Told in one line each: the pages of a small tenant and the
 samples, byte by byte as bench/tests/status_pages has them (numbers that vary are written as N); what Prometheus' `promtool` says
 of the samples, where it is installed; what is counted; the text of a line that wasn't begun; a ninth connection of a tenant; how old a session's last line is, and the server; slow lines; a page
-while a step runs; a session that is ended; a tenant that is renewed, and one that renews itself; requests of other sites, and
+while a step runs; a session that is ended; tenants that begin at another number; a tenant that is renewed, and one that renews itself; requests of other sites, and
 those that name another machine; hostile requests, and silent connections while a client of the server goes on; half requests
 beside which others are answered; whom keys let in. The first thing that isn't as it is to be ends this with status 1; what has
 a bound on time is tried up to three times, and each miss is told. With --write the files of bench/tests/status_pages are written
@@ -349,6 +349,13 @@ def ages(program):
         expect(f"a session behind {line}", found is not None, True)
         if not int(asked - after) <= int(found.group(1)) <= int(told - before) + 1:
             sys.exit(f"behind {line} a client is silent for {asked - after:.1f} s, and the page tells {found.group(1)} s")
+    def newest():
+        say(file, "select")
+        found = re.search(r'<tr><td>2</td><td>open</td><td class="n">(\d+) s ago</td></tr>', server.get("/tenants/3")[1].decode())
+        return found and int(found.group(1))
+
+    # a second may begin between the line and the page, but not each time
+    until("a line that just came is 0 s old", lambda: newest() == 0)
     asked = time.monotonic()
     up = server.sample("filgwesha_uptime_seconds")
     if not int(asked - listens) <= up <= time.monotonic() - began:
@@ -457,6 +464,30 @@ def slow(program, longer):
     file.close()
     server.stop()
     print(f"slow lines: {told} of {lines} told; pages took at most {took * 1000:.0f} ms beside a step of {ran:.1f} s, which ended first")
+
+
+def numbered(program):
+    """A server whose tenants begin at another number: each sample, page and end is that of the tenant of its number."""
+    server = Server(program, "--first-tenant", "300")
+    stream, file, reply = server.client("305 2")
+    run(file, "create table t (a int)")
+    expect("another session of that name", server.raw_ask("305 2"), "no 45 AlreadyOpen\n")
+    for name, wanted in (("sessions_open", 1), ("connections_turned_away_total", 1), ("volume", 0)):
+        soon(f"{name} of tenant 305", lambda: server.sample(f'filgwesha_tenant_{name}{{tenant="305"}}'), wanted)
+        for other in (300, 304, 5):
+            expect(f"{name} of tenant {other}", server.sample(f'filgwesha_tenant_{name}{{tenant="{other}"}}') or 0, 0)
+    seen = r'<tr><td>2</td><td>open</td><td class="n">\d+ s ago</td></tr>'
+    expect("its page", re.search(seen, server.get("/tenants/305")[1].decode()) is not None, True)
+    expect("a page of no tenant", server.get("/tenants/5")[0], 404)
+    expect("an end of no tenant's session", server.get("/tenants/5/sessions/2/end", method="POST")[0], 404)
+    expect("a renewal", server.get("/tenants/305/renew", method="POST")[0], 202)
+    until("its next volume", lambda: server.sample('filgwesha_tenant_volume{tenant="305"}') == 1)
+    expect("an end", server.get("/tenants/305/sessions/2/end", method="POST")[0], 202)
+    expect("its connection", file.read(), "")
+    stream.close()
+    file.close()
+    server.stop()
+    print("numbers: of a server whose tenants begin at 300 each is shown, counted, renewed and ended by its number")
 
 
 def ends(program):
@@ -712,6 +743,7 @@ def main():
         ages(asked.program)
         trial(slow, asked.program)
         ends(asked.program)
+        numbered(asked.program)
         renewals(asked.program)
         room(asked.program)
         strangers(asked.program)
