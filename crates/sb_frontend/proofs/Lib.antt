@@ -1,0 +1,4 @@
+pub mod Cells
+pub mod Saying
+pub mod RowReads
+pub mod Stepless

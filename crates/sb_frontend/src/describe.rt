@@ -1,0 +1,32 @@
+//! What is known of a tenant beside the replies to its lines.
+
+use sb_value::{ColumnType, Name, Refusal};
+use std::alloc::{AllocError, Global};
+use std::sync::Wait;
+
+/// A column of a query's rows: its name and its type.
+#[derive(Drop)]
+pub struct Heading {
+    pub name: Vec<u8>,
+    pub of: ColumnType,
+}
+
+/// Knows the columns of queries, and what refusals are about.
+pub trait Describe {
+    /// The columns of the rows of a line's query. Error: out of memory.
+    fn columns_of<R: Wait>(
+        &self,
+        rt: &R,
+        alloc: Global,
+        line: &[u8],
+    ) -> Result<Vec<Heading>, AllocError>;
+
+    /// The name that a refusal of a line is about, if it can be told. Error: out of memory.
+    fn about<R: Wait>(
+        &self,
+        rt: &R,
+        alloc: Global,
+        line: &[u8],
+        refusal: &Refusal,
+    ) -> Result<Option<Name>, AllocError>;
+}

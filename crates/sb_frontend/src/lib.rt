@@ -1,0 +1,14 @@
+//! The frontend side of PostgreSQL's protocol: what a client's messages ask of a session, and what they are answered.
+#![tactic(auto)]
+
+mod cell;
+mod columns;
+mod considered;
+mod describe;
+mod output;
+mod report;
+mod rows;
+mod script;
+mod without;
+
+pub use describe::{Describe, Heading};
