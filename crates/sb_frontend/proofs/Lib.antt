@@ -2,3 +2,4 @@ pub mod Cells
 pub mod Saying
 pub mod RowReads
 pub mod Stepless
+pub mod Telling

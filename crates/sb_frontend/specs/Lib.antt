@@ -6,3 +6,5 @@ pub mod Reports
 pub mod Considerations
 pub mod Stepless
 pub mod Scripts
+pub mod Replies
+pub mod Tellings

@@ -29,4 +29,7 @@ pub trait Describe {
         line: &[u8],
         refusal: &Refusal,
     ) -> Result<Option<Name>, AllocError>;
+
+    /// The byte at which a line stops being a command, or its length.
+    fn syntax_place(&self, alloc: Global, line: &[u8]) -> usize;
 }

@@ -6,9 +6,14 @@ mod columns;
 mod considered;
 mod describe;
 mod output;
+mod reply;
 mod report;
 mod rows;
 mod script;
+mod session;
+mod tell;
 mod without;
 
 pub use describe::{Describe, Heading};
+pub use reply::Reply;
+pub use session::LineSession;
