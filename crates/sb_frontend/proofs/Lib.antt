@@ -3,3 +3,4 @@ pub mod Saying
 pub mod RowReads
 pub mod Stepless
 pub mod Telling
+pub mod Playing

@@ -8,3 +8,4 @@ pub mod Stepless
 pub mod Scripts
 pub mod Replies
 pub mod Tellings
+pub mod Plays

@@ -6,6 +6,7 @@ mod columns;
 mod considered;
 mod describe;
 mod output;
+mod play;
 mod reply;
 mod report;
 mod rows;
