@@ -4,3 +4,4 @@ pub mod RowReads
 pub mod Stepless
 pub mod Telling
 pub mod Playing
+pub mod Conversing

@@ -9,3 +9,7 @@ pub mod Scripts
 pub mod Replies
 pub mod Tellings
 pub mod Plays
+pub mod Starts
+pub mod Demands
+pub mod Conversations
+pub mod Talking

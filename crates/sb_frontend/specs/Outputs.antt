@@ -1,5 +1,5 @@
 -- Promise: what is to be sent, and that messages are added to it.
-use Rattle.std.specs.Prelude.{◌≡◌, ℕ, Bool, true, false, List, [], ◌∷◌, ◌++◌, flat_map, codes, Option, Some, None}
+use Rattle.std.specs.Prelude.{◌≡◌, ℕ, Bool, false, List, [], ◌∷◌, ◌++◌, flat_map, codes, Option, Some, None}
 use Rattle.sb_postgres.specs.Answers.{Answered, CommandComplete, ErrorResponse, NoticeResponse, SeenField, sent}
 use Rattle.sb_postgres.specs.declared.told.sqlstate.SqlState.{SqlState}
 use Rattle.sb_postgres.specs.SqlStates.{code_of}
@@ -33,6 +33,10 @@ SaysSome Is old new =
 -- these messages are behind the others, whatever is held back then
 abbrev pub Extends : List Answered → Outgoing → Outgoing → Type 0
 Extends messages old new = new.failed ≡ false → (old.failed ≡ false) × (new.bytes ≡ old.bytes ++ written messages)
+
+-- so are these bytes
+abbrev pub Sends : List ℕ → Outgoing → Outgoing → Type 0
+Sends text old new = new.failed ≡ false → (old.failed ≡ false) × (new.bytes ≡ old.bytes ++ text)
 
 -- this tag is held back, unless memory has run out
 abbrev pub Holds : Option (List ℕ) → Outgoing → Type 0

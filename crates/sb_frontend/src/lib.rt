@@ -4,17 +4,23 @@
 mod cell;
 mod columns;
 mod considered;
+mod conversation;
+mod demand;
 mod describe;
 mod output;
+mod phase;
 mod play;
 mod reply;
 mod report;
 mod rows;
 mod script;
 mod session;
+mod start;
 mod tell;
 mod without;
 
 pub use describe::{Describe, Heading};
+pub use phase::Phase;
 pub use reply::Reply;
 pub use session::LineSession;
+pub use start::{OpenError, SESSIONS, SessionSource};
