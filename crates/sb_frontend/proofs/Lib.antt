@@ -5,3 +5,5 @@ pub mod Stepless
 pub mod Telling
 pub mod Playing
 pub mod Conversing
+pub mod Connecting
+pub mod Whole

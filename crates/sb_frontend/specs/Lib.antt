@@ -13,3 +13,6 @@ pub mod Starts
 pub mod Demands
 pub mod Conversations
 pub mod Talking
+pub mod Dialogues
+pub mod Takings
+pub mod Steps

@@ -1,21 +1,29 @@
 //! A conversation in messages: it names a tenant, brings a key where one is asked for, and then makes queries.
 ghost use Rattle.std.specs.Prelude.{◌≡◌, ◌∷◌, [], IfSome, MatchOption, None, Some, false, map};
 ghost use Rattle.sb_postgres.specs.Answers.{ParameterStatus};
+ghost use Rattle.sb_postgres.specs.Messages.{said};
 ghost use Rattle.sb_postgres.specs.Startup.{pair_seen, started};
 ghost use Rattle.sb_frontend.specs.Conversations as spec;
+ghost use Rattle.sb_frontend.specs.Demands.{demanded};
 ghost use Rattle.sb_frontend.specs.Outputs as output;
 ghost use Rattle.sb_frontend.specs.Starts.{options_of, tenant_of};
+ghost use Rattle.sb_frontend.specs.Takings.{TakesMessage, TakesPacket};
 ghost use Rattle.sb_frontend.specs.Talking as talking;
 
+use crate::demand::{Demand, demand_of};
 use crate::describe::Describe;
 use crate::output::Output;
 use crate::phase::Phase;
 use crate::play::Speaker;
 use crate::session::LineSession;
 use crate::start::{SessionSource, open_least, options_of, state_of, tenant_of, text_of};
+use crate::taken::Taken;
 use crate::tell::Teller;
 use sb_postgres::told::{REPORTED, Setting, SqlState};
-use sb_postgres::{Parameter, ServerMessage, StartupPacket, TransactionStatus};
+use sb_postgres::{
+    ClientMessage, Parameter, ReadError, ServerMessage, StartupPacket, TransactionStatus,
+    read_message, read_startup,
+};
 use std::alloc::Global;
 use std::marker::Model;
 use std::sync::Wait;
@@ -279,6 +287,97 @@ impl<S: LineSession> Conversation<S> {
             b"the extended query protocol is not supported",
         );
         self.phase = Phase::Skipping;
+    }
+
+    /// Meets what a message asks.
+    fn meet<R: Wait, O: SessionSource<Session = S>, C: Describe>(
+        &mut self,
+        rt: &R,
+        source: &O,
+        describe: &C,
+        demand: Demand<'_>,
+    )
+        ensures { talking.Tells (spec.Meets O.source (demanded demand.entry)) self.old self.new }
+    {
+        match demand {
+            Demand::End => self.phase = Phase::Over,
+            Demand::Enter { tenant, key } => self.enter(rt, source, tenant, key),
+            Demand::Play { text } => self.query(rt, describe, text),
+            Demand::Synchronize => self.synchronize(),
+            Demand::Nothing => {}
+            Demand::Unsupported => self.skip(),
+            Demand::Misplaced => self.turn_away(
+                SqlState::ProtocolViolation,
+                b"this message is not expected here",
+            ),
+        }
+    }
+
+    /// Answers a message.
+    pub(crate) fn answer<R: Wait, O: SessionSource<Session = S>, C: Describe>(
+        &mut self,
+        rt: &R,
+        source: &O,
+        describe: &C,
+        message: &ClientMessage<'_>,
+    )
+        ensures { talking.Tells (spec.AnswersMessage O.source (said message.now)) self.old self.new }
+    {
+        let demand = demand_of(self.phase, message);
+        self.meet(rt, source, describe, demand);
+    }
+
+    /// Answers the packet with this body.
+    pub(crate) fn take_packet<R: Wait, O: SessionSource<Session = S>>(
+        &mut self,
+        rt: &R,
+        source: &O,
+        body: &[u8],
+    ) -> Taken
+        ensures { TakesPacket O.source body.now self.old result self.new }
+    {
+        match read_startup(self.alloc, body) {
+            Ok(packet) => {
+                self.answer_packet(rt, source, &packet);
+                Taken::Answered
+            }
+            Err(ReadError::Memory) => {
+                self.out.fail();
+                Taken::NoMemory
+            }
+            Err(ReadError::Fault(_)) => Taken::Unreadable,
+        }
+    }
+
+    /// Answers the message with this first byte and this body.
+    pub(crate) fn take_message<R: Wait, O: SessionSource<Session = S>, C: Describe>(
+        &mut self,
+        rt: &R,
+        source: &O,
+        describe: &C,
+        kind: u8,
+        body: &[u8],
+    ) -> Taken
+        ensures { TakesMessage O.source kind body.now self.old result self.new }
+    {
+        match read_message(self.alloc, kind, body) {
+            Ok(message) => {
+                self.answer(rt, source, describe, &message);
+                Taken::Answered
+            }
+            Err(ReadError::Memory) => {
+                self.out.fail();
+                Taken::NoMemory
+            }
+            Err(ReadError::Fault(_)) => Taken::Unreadable,
+        }
+    }
+
+    /// The client sends no more.
+    pub(crate) fn end(&mut self)
+        ensures { self.new ≡ record self.old { at = spec.in_phase Phase.Over self.old.at } }
+    {
+        self.phase = Phase::Over;
     }
 
     /// Its session, if it was opened.

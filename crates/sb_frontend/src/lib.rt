@@ -3,6 +3,8 @@
 
 mod cell;
 mod columns;
+mod connection;
+mod connection_state;
 mod considered;
 mod conversation;
 mod demand;
@@ -16,9 +18,11 @@ mod rows;
 mod script;
 mod session;
 mod start;
+mod taken;
 mod tell;
 mod without;
 
+pub use connection::FrontendConnection;
 pub use describe::{Describe, Heading};
 pub use phase::Phase;
 pub use reply::Reply;
