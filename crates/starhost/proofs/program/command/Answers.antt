@@ -43,7 +43,7 @@ pub returns-in-Ok-Version-clause-usual : goal.returns-in-Ok-Version-clause-usual
 returns-in-Ok-Version-clause-usual g c = λ few ok. let words = map g.S.AsStr.text c.args.words.now in absurd (c.words_ask_once.ensures.one_thing words _ (c.words_ask_once.ensures.usual words (few_texts g.S.AsStr.text c.args.words.now few)) _ (rw c.in-Ok-Version.field-0-is at c.in-Ok-Version.ensures.asked))
 
 pub returns-in-Ok-Version-clause-asked : goal.returns-in-Ok-Version-clause-asked
-returns-in-Ok-Version-clause-asked g c = inr (inr (inl (rw c.in-Ok-Version.field-0-is at c.in-Ok-Version.ensures.asked, refl, c.show-in-Ok-Version.ensures)))
+returns-in-Ok-Version-clause-asked g c = inr (inr (inl (rw c.in-Ok-Version.field-0-is at c.in-Ok-Version.ensures.asked, refl, c.show.ensures)))
 
 -- why words are refused, or no memory for the line
 module _ {A B C : Type 0} (asked : A) (n : ℕ) {R W Told : Type 0} (reader : R) (writer : W) where
