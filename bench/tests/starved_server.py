@@ -5,7 +5,7 @@
 
 PROGRAM is crates/starhost/out/starhost where no word is given. Four trials, each told in one line:
 
-- each request for memory of a start is refused in turn: the server serves, or ends and tells that memory ran out;
+- each request for memory of a start is refused in turn: the server serves, or ends for want of memory or of a thread;
 - each of N requests for memory (200, evenly spread) of a server is refused in turn while six clients are at work: it
   answers afterwards, ends well with status 0, and at most the connection whose request it was is closed, or the line is
   answered 91 or 92;
@@ -21,6 +21,7 @@ It needs `cc`, which compiles refuse.c of bench/harness.
 import argparse
 import hashlib
 import os
+import re
 import subprocess
 import tempfile
 import time
@@ -202,16 +203,17 @@ def few_threads(program, refuses, room):
 
 
 def begins(program, refuses):
-    """A server each of whose requests for memory at its start is refused in turn: it serves, or ends and tells why."""
+    """A server each of whose requests for memory at its start is refused in turn: it serves, or ends and tells that memory
+    ran out, or that a thread, which needs memory, can't be started."""
     requests, ended = requests_of(starved(program, refuses=refuses)), 0
     for number in range(1, requests + 1):
         status, last, log = end_of(starved(program, refuses=refuses, REFUSED=number), f"request {number} of a start")
         if status == 0:
             need(last.startswith("trails 16 steps"), f"request {number} of a start: {log[-300:]}")
         else:
-            need(status == 1 and "fault: out of memory\n" in log, f"request {number} of a start: status {status}: {log[-300:]}")
+            need(status == 1 and re.search("fault: (out of memory|cannot start a thread)\n", log), f"request {number} of a start: status {status}: {log[-300:]}")
             ended += 1
-    print(f"each of {requests} requests of a start refused in turn: {ended} servers end for want of memory, the others serve")
+    print(f"each of {requests} requests of a start refused in turn: {ended} servers end and tell why, the others serve")
 
 
 def main():
