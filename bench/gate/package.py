@@ -4,8 +4,8 @@
     ./check --package FOLDER
     python3 -m bench.gate.package FOLDER [--program PROGRAM] [--gate LINE]
 
-FOLDER gets `filgwesha_VERSION_amd64.deb` (program, unit, manual pages, documents, examples, Python client), an archive
-with the same, the client as a wheel, SHA256SUMS, and BUILT: the commit, the logic, and what the gate said last. PROGRAM is
+FOLDER, which has to be empty or new, gets `filgwesha_VERSION_amd64.deb` (program, unit, manual pages, documents,
+examples, Python client), an archive with the same, the client as a wheel, SHA256SUMS, and BUILT: the commit, the logic, and what the gate said last. PROGRAM is
 crates/starhost/out/starhost where no word is given. The same commit and program make the same bytes.
 """
 
@@ -177,9 +177,11 @@ def wheel(commit, folder):
 
 
 def package(folder, program, gate):
-    """Packs the program. The digests of what was made."""
-    commit = Commit(program)
+    """Packs the program into an empty folder, or one that isn't there. The digests of what was made."""
     folder.mkdir(parents=True, exist_ok=True)
+    if any(folder.iterdir()):
+        sys.exit(f"{folder} has files: nothing is written there")
+    commit = Commit(program)
     with tempfile.TemporaryDirectory() as room:
         root = pathlib.Path(room) / "root"
         put_program(root, program)
