@@ -3,7 +3,9 @@ mod Searching
 mod Indexing
 mod Joining
 mod Deciding
+mod Calculating
 mod Compiling
+mod Parting
 mod Gathering
 mod Telling
 mod Flagging

@@ -9,10 +9,12 @@ pub mod ValueSet
 pub mod Memo
 pub mod Joined
 pub mod ErrorFree
+pub mod Calculation
 pub mod Index
 pub mod Join
 pub mod Gathered
 pub mod Compiled
+pub mod Listed
 pub mod Batch
 pub mod AccessPath
 pub mod RowFlags

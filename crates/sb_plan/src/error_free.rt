@@ -9,7 +9,7 @@ use sb_check::{
 };
 
 /// True if an expression is a literal or a column.
-fn is_plain(e: &Expression) -> bool
+pub(crate) fn is_plain(e: &Expression) -> bool
     ensures { result ≡ spec.is_plain e.now }
 {
     match &e.node {
@@ -48,7 +48,7 @@ pub fn is_error_free(c: &Condition, memo: &Memo<'_>) -> bool
 }
 
 /// True if each expression is a literal or a column.
-fn are_plain(list: &[Expression]) -> bool
+pub(crate) fn are_plain(list: &[Expression]) -> bool
     ensures { result ≡ list_all spec.is_plain list.now }
 {
     list.iter().all(|e| is_plain(e))

@@ -3,6 +3,7 @@
 #![tactic(auto)]
 
 mod batch;
+mod calculation;
 mod compile;
 mod correlation;
 mod cost;
@@ -16,9 +17,12 @@ mod index;
 mod join;
 mod laws;
 mod lent_row;
+mod listed;
 mod memo;
 mod names;
+mod ones;
 mod outward;
+mod partial_test;
 mod parts;
 mod scope;
 mod sides;
@@ -29,7 +33,8 @@ mod value_ref;
 mod value_set;
 mod way;
 
-pub use batch::{Batch, Selected};
+pub use batch::Batch;
+pub use calculation::is_free_of_arithmetic;
 pub use correlation::is_uncorrelated;
 pub use cost::{combination_count, operand_cost, query_cost, subquery_cost};
 pub use early::is_false_already;
@@ -41,11 +46,15 @@ pub use gather::{BATCHED, Gathered, GatheredColumns};
 pub use index::{Index, IndexEntry};
 pub use join::{Join, LOOKED_UP};
 pub use laws::{
-    equal_columns_suffice, error_free_never_overflow, indexes_suffice, known_values_suffice,
+    equal_columns_suffice, error_free_never_overflow, free_of_arithmetic_never_overflow,
+    indexes_suffice, known_values_suffice,
 };
 pub use lent_row::LentRow;
 pub use memo::Memo;
+pub use ones::selection_of;
 pub use outward::Outward;
+pub use partial_test::PartialTest;
+pub use parts::Parts;
 pub use scope::{Scope, column};
 pub use source_rows::SourceRows;
 pub use sources::Sources;

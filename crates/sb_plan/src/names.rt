@@ -2,6 +2,7 @@
 ghost use Rattle.std.specs.Prelude.{◌≡◌, ◌<◌, get_or, length, IfSome};
 ghost use Rattle.std.specs.Bool.{OnTrue};
 
+use crate::listed::listed_column;
 use crate::memo::Memo;
 use sb_check::{
     Column, Condition, ConditionNode, Expression, ExpressionNode, Items, Operand, OperandNode,
@@ -113,19 +114,39 @@ pub(crate) fn named_in<'c>(alloc: Global, q: &'c Query) -> Option<Named<'c>> {
     }
 }
 
-/// True if no part of a condition is left to the walk for its form: of subqueries those are compiled whose answer is known.
-pub(crate) fn is_compiled(c: &Condition, memo: &Memo<'_>) -> bool {
+/// True if a condition in which no other stands isn't left to the walk for its form: of subqueries those are compiled
+/// whose answer is known.
+fn is_simple_compiled(c: &Condition, memo: &Memo<'_>) -> bool {
     match &c.node {
-        ConditionNode::Always => true,
-        ConditionNode::Disjunction(a, b) | ConditionNode::Conjunction(a, b) => {
-            is_compiled(a, memo.left()) && is_compiled(b, memo.right())
-        }
-        ConditionNode::Negation(a) => is_compiled(a, memo),
         ConditionNode::Compare(_, _, b) => match &b.node {
             OperandNode::Expression(_) => true,
             OperandNode::ScalarSubquery(_) => memo.one_value().is_some(),
         },
         ConditionNode::In(_, _) => false,
         ConditionNode::Exists(_) => memo.truth().is_some(),
+        _ => true,
+    }
+}
+
+/// True if no part of a condition is left to the walk for its form.
+pub(crate) fn is_compiled(c: &Condition, memo: &Memo<'_>) -> bool {
+    match &c.node {
+        ConditionNode::Disjunction(a, b) | ConditionNode::Conjunction(a, b) => {
+            is_compiled(a, memo.left()) && is_compiled(b, memo.right())
+        }
+        ConditionNode::Negation(a) => is_compiled(a, memo),
+        _ => is_simple_compiled(c, memo),
+    }
+}
+
+/// True if a part of a condition isn't left to the walk for its form.
+pub(crate) fn is_partly_compiled(c: &Condition, memo: &Memo<'_>) -> bool {
+    match &c.node {
+        ConditionNode::Disjunction(a, b) | ConditionNode::Conjunction(a, b) => {
+            is_partly_compiled(a, memo.left()) || is_partly_compiled(b, memo.right())
+        }
+        ConditionNode::Negation(a) => is_partly_compiled(a, memo),
+        ConditionNode::In(_, _) => listed_column(c, memo).is_some(),
+        _ => is_simple_compiled(c, memo),
     }
 }
