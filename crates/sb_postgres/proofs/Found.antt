@@ -148,7 +148,7 @@ first : List ℕ → ℕ
 first [] = 0
 first (x ∷ xs) = x
 
-opens-with : (b : ℕ) (bs text : List ℕ) → text ≡ b ∷ bs → OpensDollarQuote text → b ≡ 36
+pub opens-with : (b : ℕ) (bs text : List ℕ) → text ≡ b ∷ bs → OpensDollarQuote text → b ≡ 36
 unfolding first
 opens-with b bs text is (p.no_tag {rest = rest}) = sym (ap first is)
 opens-with b bs text is (p.tag {b = c} cs rest letter run) = sym (ap first is)

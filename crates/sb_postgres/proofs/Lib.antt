@@ -16,3 +16,10 @@ pub mod Grammar
 pub mod Places
 pub mod Fine
 pub mod Marks
+pub mod Ahead
+pub mod Filled
+pub mod FillTurns
+pub mod FillTexts
+pub mod FillEnds
+pub mod FillParts
+pub mod Counted

@@ -22,3 +22,5 @@ pub mod SqlStates
 pub mod Wordings
 pub mod Tags
 pub mod Settings
+pub mod Templates
+pub mod Filling

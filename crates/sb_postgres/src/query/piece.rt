@@ -154,7 +154,7 @@ fn up_to(
 
 /// The first piece of a text: its kind, and its number of bytes.
 #[tactic(auto, unfolding(crate::specs::Scan::piece_at))]
-fn piece_at(text: &[u8]) -> Result<(PieceKind, usize), Fault>
+pub(crate) fn piece_at(text: &[u8]) -> Result<(PieceKind, usize), Fault>
     requires { 0 < length text.now }
     ensures value { result ≡ scan.piece_at text.now }
     ensures within { IfOk result (λ p. (1 ≤ p.1) × (p.1 ≤ length text.now)) }
