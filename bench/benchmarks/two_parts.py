@@ -1,5 +1,5 @@
 #!/usr/bin/env python3
-"""two_parts.py PROGRAM ..: long conditions beside a subquery or an `in`, on each program by turns in one run.
+"""two_parts.py PROGRAM ..: long conditions beside a subquery or an `in`, or within one, on each program by turns in one run.
 
 Prints for each statement the least time of the runs of each program (the whole run less one without the statement), and
 the answers.
@@ -22,7 +22,6 @@ for made, lines in (
     filled("u", "b int, d text", lambda i: f"({(i * 7) % 1024}, 'text {i % 89}')", 512),
     filled("e", "k int", lambda i: f"({i + 5})", 1),
     filled("n", "k int", lambda i: "", 0),
-    filled("s", "k int", lambda i: f"({3 * i})", 100),
 ):
     MADE += made
     FILLED += lines
@@ -38,20 +37,25 @@ def long(head, one, joint, tail, at_end=True):
     return text, count
 
 
+COUNTED = "select count(*)from t,u"
+
+
 def statements():
     for name, joint, one in (("or", " or ", "c='a'"), ("and", " and ", "c<'z'")):
         for what, tail in (
             ("alone", one),
             ("exists over one row", "exists(select*from e where k=a)"),
             ("exists over none", "exists(select*from n where k=a)"),
-            ("in", "a in(select k from s)"),
-            ("not in", "not a in(select k from s)"),
+            ("in", "a in(select k from e)"),
+            ("not in", "not a in(select k from e)"),
         ):
             for end in (True, False):
                 if what == "alone" and not end:
                     continue
-                text, count = long("select count(*)from t,u where ", one, joint, tail, end)
+                text, count = long(f"{COUNTED} where ", one, joint, tail, end)
                 yield f"{count} {name}, {what}{'' if end else ' first'}", text
+        text, count = long(f"{COUNTED} where exists(select*from e where ", one, joint, "k=a)")
+        yield f"{count} {name}, within an exists", text
 
 
 def run(program, lines):
