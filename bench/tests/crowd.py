@@ -241,11 +241,11 @@ def idle_end(program, longer):
     print(f"--idle {longer}: closed after {seconds:.1f} s; {told}")
 
 
-# A condition that no two rows meet, and that looks at all its parts: ten sums of ninety terms. A query that names a row
-# around it has it walked row by row.
-LONG = b" or ".join([b"+".join([b"x.a", b"y.a"] * 45) + b" < 0"] * 10 + [b"exists (select * from none z where z.a = x.a)"])
-# A statement may look at 2^20 pairs of rows.
-MOST_ROWS = 1_024
+# A condition that no two rows meet: ten sums of ninety terms. It stands within a query that names the rows around it, so
+# it is walked for each two of them.
+LONG = b"exists (select * from one z where %s or z.a < 0)" % b" or ".join([b"+".join([b"x.a", b"y.a"] * 45) + b" < 0"] * 10)
+# A statement may look at 2^20 combinations, and at each pair of rows there is one more within that query.
+MOST_ROWS = 724
 
 
 def long_statement(stream, seconds):
@@ -265,7 +265,8 @@ def long_statement(stream, seconds):
         need(read_lines(stream, 2) == b"rows 1\n0\n", "a short statement")
         return time.perf_counter() - start
 
-    say(stream, b"create table none (a int)\ncreate table few (a int)\ncreate table many (a int)\nbegin\n")
+    say(stream, b"create table one (a int)\ncreate table few (a int)\ncreate table many (a int)\nbegin\n")
+    need(say(stream, b"insert into one values (1)\n") == b"ok 1\n", "the row of a long statement")
     rows = 16
     fill(b"few", rows)
     # twice the rows take four times as long: the last one takes from a fortieth of the time on up to a tenth
