@@ -113,7 +113,7 @@ starts-by source minor ps qs rs tenant old new mid q r is says t =
 
 pub queried : (text : List ℕ) (old new : Talking) (before behind : Spot) (mid : Outgoing) → old.at.spot ≡ Some before → PlaysText text before behind old.out mid → Says (ready (Some behind) ∷ []) mid new.out
     → new.at ≡ record old.at { spot = Some behind } → Tells (PlaysHere text) old new
-queried text old new before behind mid was plays says at = (plays.2 ++ ready (Some behind) ∷ [], (ap (λ (s : Standing). s.phase) at, here), told)
+queried text old new before behind mid was plays says at = (plays.2 ++ ready (Some behind) ∷ [], (ap (λ (s : Standing). s.phase) at, ap (λ (s : Standing). s.work) at, here), told)
   where
     now : PlaysIn text (Some before) (plays.2 ++ ready (Some behind) ∷ []) new.at.spot
     now = (behind, plays.2, plays.0, plays.1, plays.3, ap (λ (s : Standing). s.spot) at, refl)
@@ -133,7 +133,7 @@ queried text old new before behind mid was plays says at = (plays.2 ++ ready (So
 pub not-queried : (text : List ℕ) (old : Talking) → old.at.spot ≡ None → Tells (PlaysHere text) old old
 not-queried text old none =
     let here : PlaysIn text old.at.spot [] old.at.spot = subst (λ (s : Option Spot). PlaysIn text s [] s) (sym none) (refl, refl) in
-    tells-nothing (PlaysHere text) old old.at (refl, here)
+    tells-nothing (PlaysHere text) old old.at (refl, refl, here)
 
 pub as-demanded : (source : Source) (d is : Demanded) (old new : Talking) → d ≡ is → Tells (Meets source is) old new → Tells (Meets source d) old new
 as-demanded source d is old new e t = subst (λ (n : Demanded). Tells (Meets source n) old new) (sym e) t

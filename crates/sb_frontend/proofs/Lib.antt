@@ -7,3 +7,7 @@ pub mod Playing
 pub mod Conversing
 pub mod Connecting
 pub mod Whole
+pub mod Naming
+pub mod Arguing
+pub mod Extending
+pub mod Preparing

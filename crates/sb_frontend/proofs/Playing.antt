@@ -7,11 +7,13 @@ use Rattle.sb_postgres.specs.declared.query.kind.StatementKind.{StatementKind}
 use Rattle.sb_postgres.specs.declared.query.kind.StatementKind.TheVariants as k
 use Rattle.sb_postgres.specs.declared.told.sqlstate.SqlState.{SqlState}
 use Rattle.sb_postgres.specs.declared.told.sqlstate.SqlState.TheVariants as state
-use Rattle.sb_postgres.specs.Answers.{Answered, EmptyQueryResponse, RowDescription}
+use Rattle.sb_postgres.specs.Answers.{Answered, EmptyQueryResponse}
 use Rattle.sb_postgres.specs.Settings.{setting_of}
 use Rattle.sb_postgres.specs.SqlStates.{state_of}
 use Rattle.sb_postgres.specs.Wordings.{message_of}
 use Rattle.sb_value.specs.declared.refusal.Refusal.{Refusal}
+use Rattle.sb_frontend.specs.declared.form.Form.{Form}
+use Rattle.sb_frontend.specs.Columns.{heads, with_columns}
 use Rattle.sb_frontend.specs.Considerations.{notices}
 use Rattle.sb_postgres.specs.Kinds.{kind_of}
 use Rattle.sb_postgres.specs.Lines.{Lines, end, ending, line}
@@ -65,34 +67,34 @@ own-told (told.ByLimit rules) = failure state.StatementTooComplex by_limit_text
 own-told (told.Refused r) = refusal-told false r
 own-told told.NotBegun = failure state.OutOfMemory unbegun_text
 
-pub reply-told : (kind : StatementKind) (reply : Replied) → Some_said (TellsReply kind reply)
-reply-told kind told.Done = ([], refl)
-reply-told kind (told.Changed count) = ([], refl)
-reply-told kind (told.Found rows) = (RowDescription [] ∷ map data_row rows, ([], λ r. refl))
-reply-told kind (told.Processed rules) = (notices rules, refl)
-reply-told kind (told.ByRule rule rules) = failure state.RaiseException (by_rule_text rule)
-reply-told kind (told.ByError rule error rules) = refusal-told false error
-reply-told kind (told.ByLimit rules) = failure state.StatementTooComplex by_limit_text
-reply-told kind (told.Refused r) = refusal-told (defines kind) r
-reply-told kind told.NotBegun = failure state.OutOfMemory unbegun_text
+pub reply-told : (form : Form) (kind : StatementKind) (reply : Replied) → Some_said (TellsReply form kind reply)
+reply-told form kind told.Done = ([], refl)
+reply-told form kind (told.Changed count) = ([], refl)
+reply-told form kind (told.Found rows) = (heads form [] ++ map data_row rows, ([], λ r. refl))
+reply-told form kind (told.Processed rules) = (notices rules, refl)
+reply-told form kind (told.ByRule rule rules) = failure state.RaiseException (by_rule_text rule)
+reply-told form kind (told.ByError rule error rules) = refusal-told false error
+reply-told form kind (told.ByLimit rules) = failure state.StatementTooComplex by_limit_text
+reply-told form kind (told.Refused r) = refusal-told (defines kind) r
+reply-told form kind told.NotBegun = failure state.OutOfMemory unbegun_text
 
-setting-told : (name : List ℕ) (value : Option (List ℕ)) → Some_said (TellsSetting name value)
-setting-told name (Some value) = (_, refl)
-setting-told name None = failure state.UndefinedObject (codes "unrecognized configuration parameter")
+setting-told : (form : Form) (name : List ℕ) (value : Option (List ℕ)) → Some_said (TellsSetting form name value)
+setting-told form name (Some value) = (_, refl)
+setting-told form name None = failure state.UndefinedObject (codes "unrecognized configuration parameter")
 
-pub without-told : (kind : StatementKind) (bytes : List ℕ) (has own : Bool) → Some_said (TellsWithout kind bytes has own)
-without-told k.Begin bytes has own = (warnings k.Begin has own, refl)
-without-told k.Commit bytes has own = (warnings k.Commit has own, refl)
-without-told k.Rollback bytes has own = (warnings k.Rollback has own, refl)
-without-told k.Setting bytes has own = ([], refl)
-without-told k.SelectOne bytes has own = (_, refl)
-without-told k.SelectVersion bytes has own = (_, refl)
-without-told k.SelectSchema bytes has own = (_, refl)
-without-told k.Show bytes has own = setting-told (name_shown bytes) (setting_of (name_shown bytes))
-without-told k.Unsupported bytes has own = failure state.FeatureNotSupported (unsupported_text bytes)
-without-told k.Definition bytes has own = failure state.FeatureNotSupported (unsupported_text bytes)
-without-told k.Process bytes has own = failure state.FeatureNotSupported (unsupported_text bytes)
-without-told k.Statement bytes has own = failure state.FeatureNotSupported (unsupported_text bytes)
+pub without-told : (form : Form) (kind : StatementKind) (bytes : List ℕ) (has own : Bool) → Some_said (TellsWithout form kind bytes has own)
+without-told form k.Begin bytes has own = (warnings k.Begin has own, refl)
+without-told form k.Commit bytes has own = (warnings k.Commit has own, refl)
+without-told form k.Rollback bytes has own = (warnings k.Rollback has own, refl)
+without-told form k.Setting bytes has own = ([], refl)
+without-told form k.SelectOne bytes has own = (_, refl)
+without-told form k.SelectVersion bytes has own = (_, refl)
+without-told form k.SelectSchema bytes has own = (_, refl)
+without-told form k.Show bytes has own = setting-told form (name_shown bytes) (setting_of (name_shown bytes))
+without-told form k.Unsupported bytes has own = failure state.FeatureNotSupported (unsupported_text bytes)
+without-told form k.Definition bytes has own = failure state.FeatureNotSupported (unsupported_text bytes)
+without-told form k.Process bytes has own = failure state.FeatureNotSupported (unsupported_text bytes)
+without-told form k.Statement bytes has own = failure state.FeatureNotSupported (unsupported_text bytes)
 
 pub unread-told : (error : QueryError) → Some_said (TellsUnread error)
 unread-told errors.Memory = failure state.OutOfMemory (codes "out of memory")
@@ -135,45 +137,45 @@ commits-told-as old is new o o' b well e own some c = commits-told old new o o' 
 
 -- ---- a statement
 
-pub sends-line : (kind : StatementKind) (bytes sent : List ℕ) (found : Option (List ℕ)) (reply : Replied) (old new : Spot) (o o' : Outgoing) (well : Bool) → found ≡ Some sent → Calls sent reply old new
-    → TellsSome (TellsReply kind reply) (reply_tag kind bytes reply) o o' → well ≡ is_some (reply_tag kind bytes reply)
-    → (ms : List Answered) × (tag : Option (List ℕ)) × Sends kind bytes found old ms tag new × (well ≡ is_some tag) × Tells ms tag o o'
-sends-line kind bytes sent found reply old new o o' well e calls t w =
-    let told = tell-anyway (TellsReply kind reply) (reply_tag kind bytes reply) o o' (reply-told kind reply) t in
-    subst (λ (f : Option (List ℕ)). (ms : List Answered) × (tag : Option (List ℕ)) × Sends kind bytes f old ms tag new × (well ≡ is_some tag) × Tells ms tag o o') (sym e)
+pub sends-line : (form : Form) (kind : StatementKind) (bytes sent : List ℕ) (found : Option (List ℕ)) (reply : Replied) (old new : Spot) (o o' : Outgoing) (well : Bool) → found ≡ Some sent → Calls sent reply old new
+    → TellsSome (TellsReply form kind reply) (reply_tag kind bytes reply) o o' → well ≡ is_some (reply_tag kind bytes reply)
+    → (ms : List Answered) × (tag : Option (List ℕ)) × Sends form kind bytes found old ms tag new × (well ≡ is_some tag) × Tells ms tag o o'
+sends-line form kind bytes sent found reply old new o o' well e calls t w =
+    let told = tell-anyway (TellsReply form kind reply) (reply_tag kind bytes reply) o o' (reply-told form kind reply) t in
+    subst (λ (f : Option (List ℕ)). (ms : List Answered) × (tag : Option (List ℕ)) × Sends form kind bytes f old ms tag new × (well ≡ is_some tag) × Tells ms tag o o') (sym e)
     (told.0, reply_tag kind bytes reply, (reply, calls, told.1, refl), w, told.2)
 
-pub sends-none : (kind : StatementKind) (bytes : List ℕ) (found : Option (List ℕ)) (old : Spot) (o o' : Outgoing) (well : Bool) → found ≡ None
-    → TellsSome (TellsWithout kind bytes old.has old.own) (without_tag kind bytes) o o' → well ≡ is_some (without_tag kind bytes)
-    → (ms : List Answered) × (tag : Option (List ℕ)) × Sends kind bytes found old ms tag old × (well ≡ is_some tag) × Tells ms tag o o'
-sends-none kind bytes found old o o' well e t w =
-    let told = tell-anyway (TellsWithout kind bytes old.has old.own) (without_tag kind bytes) o o' (without-told kind bytes old.has old.own) t in
-    subst (λ (f : Option (List ℕ)). (ms : List Answered) × (tag : Option (List ℕ)) × Sends kind bytes f old ms tag old × (well ≡ is_some tag) × Tells ms tag o o') (sym e)
+pub sends-none : (form : Form) (kind : StatementKind) (bytes : List ℕ) (found : Option (List ℕ)) (old : Spot) (o o' : Outgoing) (well : Bool) → found ≡ None
+    → TellsSome (TellsWithout form kind bytes old.has old.own) (without_tag kind bytes) o o' → well ≡ is_some (without_tag kind bytes)
+    → (ms : List Answered) × (tag : Option (List ℕ)) × Sends form kind bytes found old ms tag old × (well ≡ is_some tag) × Tells ms tag o o'
+sends-none form kind bytes found old o o' well e t w =
+    let told = tell-anyway (TellsWithout form kind bytes old.has old.own) (without_tag kind bytes) o o' (without-told form kind bytes old.has old.own) t in
+    subst (λ (f : Option (List ℕ)). (ms : List Answered) × (tag : Option (List ℕ)) × Sends form kind bytes f old ms tag old × (well ≡ is_some tag) × Tells ms tag o o') (sym e)
     (told.0, without_tag kind bytes, (refl, told.1, refl), w, told.2)
 
 -- by what is known of the session
-pub sends-none-as : (kind : StatementKind) (bytes : List ℕ) (found : Option (List ℕ)) (old : Spot) (o o' : Outgoing) (well has own : Bool) → has ≡ old.has → own ≡ old.own → found ≡ None
-    → TellsSome (TellsWithout kind bytes has own) (without_tag kind bytes) o o' → well ≡ is_some (without_tag kind bytes)
-    → (ms : List Answered) × (tag : Option (List ℕ)) × Sends kind bytes found old ms tag old × (well ≡ is_some tag) × Tells ms tag o o'
-sends-none-as kind bytes found old o o' well has own h w e t is =
-    let one : TellsSome (TellsWithout kind bytes old.has own) (without_tag kind bytes) o o' = subst (λ (b : Bool). TellsSome (TellsWithout kind bytes b own) (without_tag kind bytes) o o') h t in
-    sends-none kind bytes found old o o' well e (subst (λ (b : Bool). TellsSome (TellsWithout kind bytes old.has b) (without_tag kind bytes) o o') w one) is
+pub sends-none-as : (form : Form) (kind : StatementKind) (bytes : List ℕ) (found : Option (List ℕ)) (old : Spot) (o o' : Outgoing) (well has own : Bool) → has ≡ old.has → own ≡ old.own → found ≡ None
+    → TellsSome (TellsWithout form kind bytes has own) (without_tag kind bytes) o o' → well ≡ is_some (without_tag kind bytes)
+    → (ms : List Answered) × (tag : Option (List ℕ)) × Sends form kind bytes found old ms tag old × (well ≡ is_some tag) × Tells ms tag o o'
+sends-none-as form kind bytes found old o o' well has own h w e t is =
+    let one : TellsSome (TellsWithout form kind bytes old.has own) (without_tag kind bytes) o o' = subst (λ (b : Bool). TellsSome (TellsWithout form kind bytes b own) (without_tag kind bytes) o o') h t in
+    sends-none form kind bytes found old o o' well e (subst (λ (b : Bool). TellsSome (TellsWithout form kind bytes old.has b) (without_tag kind bytes) o o') w one) is
 
-pub plays-begun : (bytes : List ℕ) (needed : Bool) (old begun new : Spot) (o mid o' : Outgoing) (begins well : Bool) → needed ≡ (needs_transaction (kind_of bytes) && not old.has) → begins ≡ true
+pub plays-begun : (form : Form) (bytes : List ℕ) (needed : Bool) (old begun new : Spot) (o mid o' : Outgoing) (begins well : Bool) → needed ≡ (needs_transaction (kind_of bytes) && not old.has) → begins ≡ true
     → ((ms : List Answered) × Begins needed old ms begins begun × Says ms o mid)
-    → ((ms : List Answered) × (tag : Option (List ℕ)) × Runs bytes begun ms tag new × (well ≡ is_some tag) × Tells ms tag mid o')
-    → (ms : List Answered) × (tag : Option (List ℕ)) × PlaysOne bytes old ms tag new × (well ≡ is_some tag) × Tells ms tag o o'
-plays-begun bytes needed old begun new o mid o' begins well is e b r =
+    → ((ms : List Answered) × (tag : Option (List ℕ)) × Runs form bytes begun ms tag new × (well ≡ is_some tag) × Tells ms tag mid o')
+    → (ms : List Answered) × (tag : Option (List ℕ)) × PlaysOne form bytes old ms tag new × (well ≡ is_some tag) × Tells ms tag o o'
+plays-begun form bytes needed old begun new o mid o' begins well is e b r =
     let first : Begins (needs_transaction (kind_of bytes) && not old.has) old b.0 begins begun = subst (λ (n : Bool). Begins n old b.0 begins begun) is b.1 in
-    let all : MatchBool begins ((behind : List Answered) × Runs bytes begun behind r.1 new × (b.0 ++ r.0 ≡ b.0 ++ behind)) (GivesUp begun new × (r.1 ≡ None) × (b.0 ++ r.0 ≡ b.0)) = rw e (r.0, r.2, refl) in
+    let all : MatchBool begins ((behind : List Answered) × Runs form bytes begun behind r.1 new × (b.0 ++ r.0 ≡ b.0 ++ behind)) (GivesUp begun new × (r.1 ≡ None) × (b.0 ++ r.0 ≡ b.0)) = rw e (r.0, r.2, refl) in
     (b.0 ++ r.0, r.1, (begun, b.0, begins, first, all), r.3, tells-then b.0 r.0 r.1 o mid o' b.2 r.4)
 
-pub plays-not : (bytes : List ℕ) (needed : Bool) (old begun new : Spot) (o o' : Outgoing) (begins : Bool) → needed ≡ (needs_transaction (kind_of bytes) && not old.has) → begins ≡ false → o.held ≡ None
+pub plays-not : (form : Form) (bytes : List ℕ) (needed : Bool) (old begun new : Spot) (o o' : Outgoing) (begins : Bool) → needed ≡ (needs_transaction (kind_of bytes) && not old.has) → begins ≡ false → o.held ≡ None
     → ((ms : List Answered) × Begins needed old ms begins begun × Says ms o o') → GivesUp begun new
-    → (ms : List Answered) × (tag : Option (List ℕ)) × PlaysOne bytes old ms tag new × (false ≡ is_some tag) × Tells ms tag o o'
-plays-not bytes needed old begun new o o' begins is e none b g =
+    → (ms : List Answered) × (tag : Option (List ℕ)) × PlaysOne form bytes old ms tag new × (false ≡ is_some tag) × Tells ms tag o o'
+plays-not form bytes needed old begun new o o' begins is e none b g =
     let first : Begins (needs_transaction (kind_of bytes) && not old.has) old b.0 begins begun = subst (λ (n : Bool). Begins n old b.0 begins begun) is b.1 in
-    let all : MatchBool begins ((behind : List Answered) × Runs bytes begun behind None new × (b.0 ≡ b.0 ++ behind)) (GivesUp begun new × (◌≡◌ {A = Option (List ℕ)} None None) × (b.0 ≡ b.0)) = rw e (g, refl, refl) in
+    let all : MatchBool begins ((behind : List Answered) × Runs form bytes begun behind None new × (b.0 ≡ b.0 ++ behind)) (GivesUp begun new × (◌≡◌ {A = Option (List ℕ)} None None) × (b.0 ≡ b.0)) = rw e (g, refl, refl) in
     (b.0, None, (begun, b.0, begins, first, all), refl, λ well. let h = b.2.1 well in (h.0, h.1, b.2.0 ∙ none))
 
 -- ---- all statements of a query
@@ -225,7 +227,7 @@ finishes-badly tag old new o mid o' well e c forgot = (
 )
 
 pub plays-next : (tag : Option (List ℕ)) (bytes places : List ℕ) (more : Lines) (old new : Spot) (o mid o' : Outgoing) (well : Bool) (Left : Lines → Type 0) → Holds tag o → Left more
-    → Tells (completed o.held) None o mid → ((ms : List Answered) × (next : Option (List ℕ)) × PlaysOne bytes old ms next new × (well ≡ is_some next) × Tells ms next mid o')
+    → Tells (completed o.held) None o mid → ((ms : List Answered) × (next : Option (List ℕ)) × PlaysOne with_columns bytes old ms next new × (well ≡ is_some next) × Tells ms next mid o')
     → (ms : List Answered) × Extends ms o o' × GoesOn tag (line bytes places more) old ms well (λ next ls. Holds next o' × Left ls) new
 plays-next tag bytes places more old new o mid o' well Left holds left told p = go p.1 refl p.2 p.3
   where
@@ -235,10 +237,10 @@ plays-next tag bytes places more old new o mid o' well Left holds left told p = 
     held : Holds p.1 o'
     held w = (p.4 w).2
 
-    go : (next : Option (List ℕ)) → p.1 ≡ next → PlaysOne bytes old p.0 p.1 new → well ≡ is_some p.1
+    go : (next : Option (List ℕ)) → p.1 ≡ next → PlaysOne with_columns bytes old p.0 p.1 new → well ≡ is_some p.1
         → (ms : List Answered) × Extends ms o o' × GoesOn tag (line bytes places more) old ms well (λ next ls. Holds next o' × Left ls) new
     go None is one w =
-        let stop : PlaysOne bytes old p.0 None new = subst (λ (t : Option (List ℕ)). PlaysOne bytes old p.0 t new) is one in
+        let stop : PlaysOne with_columns bytes old p.0 None new = subst (λ (t : Option (List ℕ)). PlaysOne with_columns bytes old p.0 t new) is one in
         let over : GoesOn tag (line bytes places more) old (completed tag ++ p.0) false (λ next ls. Holds next o' × Left ls) new = stops p.0 stop refl in
         (completed tag ++ p.0, tag-then tag p.0 o mid o' holds told extends, subst (λ (b : Bool). GoesOn tag (line bytes places more) old (completed tag ++ p.0) b (λ next ls. Holds next o' × Left ls) new) (sym (w ∙ ap is_some is)) over)
     go (Some t) is one w =

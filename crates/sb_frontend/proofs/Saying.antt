@@ -1,14 +1,15 @@
--- What is told of an error: its one message, of which this holds.
+-- An error is told by one message, of which this holds.
 use Rattle.std.proofs.Common.{◌≡◌, ℕ, Bool, true, false, List, [], ◌∷◌, ◌++◌, codes, Option, Some, None, Result, Ok, Err, refl, sym, ap, subst, ◌∙◌}
 use Rattle.std.proofs.lemmas.List.{append_assoc, append-nil}
 use Rattle.std.proofs.lemmas.Grind.{flat_map-append}
 use Rattle.std.specs.Prelude.{IfOk, MatchResult}
 use Rattle.std.specs.declared.alloc.AllocError.{AllocError}
 use Rattle.sb_postgres.specs.declared.told.sqlstate.SqlState.{SqlState}
-use Rattle.sb_postgres.specs.Answers.{Answered, RowDescription, sent}
+use Rattle.sb_postgres.specs.Answers.{Answered, RowDescription, SeenColumn, sent}
 use Rattle.sb_value.specs.declared.value.ColumnType.{ColumnType}
 use Rattle.sb_frontend.specs.declared.describe.Heading.{Heading}
-use Rattle.sb_frontend.specs.Columns.{column, column_of}
+use Rattle.sb_frontend.specs.declared.form.Form.{Form}
+use Rattle.sb_frontend.specs.Columns.{column, column_of, heads}
 use Rattle.sb_frontend.specs.declared.report.Report.{Report}
 use Rattle.sb_frontend.specs.Outputs.{FailsBy, Outgoing, Says, SaysSome, Tells, TellsSome, error_of, written}
 use Rattle.sb_frontend.specs.Reports.{details, reported}
@@ -111,8 +112,12 @@ some-after Is held old mid new one two well =
 
 -- ---- a column
 
-pub says-headed : (h : Heading) (name : List ℕ) (of : ColumnType) (old new : Outgoing) → (h.name.items ≡ name) × (h.of ≡ of) → Says (RowDescription (column_of h ∷ []) ∷ []) old new
-    → Says (RowDescription (column name of ∷ []) ∷ []) old new
-says-headed h name of old new is says =
-    let one : Says (RowDescription (column name h.of ∷ []) ∷ []) old new = subst (λ (t : List ℕ). Says (RowDescription (column t h.of ∷ []) ∷ []) old new) is.0 says in
-    subst (λ (t : ColumnType). Says (RowDescription (column name t ∷ []) ∷ []) old new) is.1 one
+pub says-headed : (form : Form) (h : Heading) (name : List ℕ) (of : ColumnType) (old new : Outgoing) → (h.name.items ≡ name) × (h.of ≡ of) → Says (heads form (column_of h ∷ [])) old new
+    → Says (heads form (column name of ∷ [])) old new
+says-headed form h name of old new is says =
+    let one : Says (heads form (column name h.of ∷ [])) old new = subst (λ (t : List ℕ). Says (heads form (column t h.of ∷ [])) old new) is.0 says in
+    subst (λ (t : ColumnType). Says (heads form (column name t ∷ [])) old new) is.1 one
+
+-- where the columns were told before
+pub heads-left : (form : Form) (columns : List SeenColumn) (o : Outgoing) → form.described ≡ false → Says (heads form columns) o o
+heads-left form columns o e = rw e (says-nothing o)

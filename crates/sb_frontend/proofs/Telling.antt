@@ -1,4 +1,4 @@
--- What is told of a reply, by its kind.
+-- A reply is told by its kind.
 use Rattle.std.proofs.Common.{◌≡◌, ℕ, Bool, true, List, [], ◌∷◌, ◌++◌, Option, Some, Result, Ok, Err, refl, sym, ap, ◌∙◌, subst, inl}
 use Rattle.std.proofs.lemmas.List.{append_assoc}
 use Rattle.std.specs.Prelude.{IfOk, MatchResult, OnOk}
@@ -6,13 +6,15 @@ use Rattle.std.specs.declared.alloc.AllocError.{AllocError}
 use Rattle.sb_value.specs.declared.refusal.Refusal.{Refusal}
 use Rattle.sb_value.specs.declared.value.Value.{Value}
 use Rattle.sb_postgres.specs.declared.query.kind.StatementKind.{StatementKind}
-use Rattle.sb_postgres.specs.Answers.{Answered, RowDescription}
+use Rattle.sb_postgres.specs.Answers.{Answered}
 use Rattle.sb_postgres.specs.declared.told.tag.Effect.{Effect}
 use Rattle.sb_postgres.specs.Kinds.{kind_of}
 use Rattle.sb_postgres.specs.SqlStates.{state_of}
 use Rattle.sb_postgres.specs.Tags.{tag_of}
 use Rattle.sb_postgres.specs.Wordings.{message_of}
 use Rattle.sb_frontend.specs.declared.report.Report.{Report}
+use Rattle.sb_frontend.specs.declared.form.Form.{Form}
+use Rattle.sb_frontend.specs.Columns.{heads}
 use Rattle.sb_frontend.specs.Outputs.{Outgoing, Says, SaysSome, Tells, TellsSome, written}
 use Rattle.sb_frontend.specs.Reports.{reported}
 use Rattle.sb_frontend.specs.Replies.{Replied}
@@ -22,9 +24,9 @@ use Rattle.sb_frontend.proofs.Saying.{fails-as, fails-reported, says-some, some-
 
 -- ---- by the reply
 
-pub as-reply : (kind : StatementKind) (bytes : List ℕ) (r is : Replied) (old new : Outgoing) → r ≡ is → TellsSome (TellsReply kind is) (reply_tag kind bytes is) old new
-    → TellsSome (TellsReply kind r) (reply_tag kind bytes r) old new
-as-reply kind bytes r is old new e h = subst (λ (t : Replied). TellsSome (TellsReply kind t) (reply_tag kind bytes t) old new) (sym e) h
+pub as-reply : (form : Form) (kind : StatementKind) (bytes : List ℕ) (r is : Replied) (old new : Outgoing) → r ≡ is → TellsSome (TellsReply form kind is) (reply_tag kind bytes is) old new
+    → TellsSome (TellsReply form kind r) (reply_tag kind bytes r) old new
+as-reply form kind bytes r is old new e h = subst (λ (t : Replied). TellsSome (TellsReply form kind t) (reply_tag kind bytes t) old new) (sym e) h
 
 pub as-own : (r is : Replied) (old new : Outgoing) → r ≡ is → SaysSome (TellsOwn is) old new → SaysSome (TellsOwn r) old new
 as-own r is old new e h = subst (λ (t : Replied). SaysSome (TellsOwn t) old new) (sym e) h
@@ -49,13 +51,13 @@ made-refuses (Err e) d r old new is failed = some-failed (Refuses d r) old new f
 
 -- ---- rows
 
-pub rows-told : (rows : List (List Value)) (old mid new : Outgoing) → SaysSome AreColumns old mid → SaysSome (RowsTold rows) mid new → SaysSome (TellsRows rows) old new
-rows-told rows old mid new one two = (
+pub rows-told : (form : Form) (rows : List (List Value)) (old mid new : Outgoing) → SaysSome (AreColumns form) old mid → SaysSome (RowsTold rows) mid new → SaysSome (TellsRows form rows) old new
+rows-told form rows old mid new one two = (
   two.0 ∙ one.0,
   λ well.
       let h = two.1 well in
       let g = one.1 h.0 in
       let whole : new.bytes ≡ old.bytes ++ written (g.1 ++ h.1) =
       h.3 ∙ ap (λ t. t ++ written h.1) g.3 ∙ append_assoc old.bytes (written g.1) (written h.1) ∙ ap (λ t. old.bytes ++ t) (sym (written-append g.1 h.1)) in
-      (g.0, g.1 ++ h.1, (g.2.0, λ range. ap (λ (ms : List Answered). ms ++ h.1) g.2.1 ∙ ap (λ (ms : List Answered). RowDescription g.2.0 ∷ ms) (h.2 range)), whole),
+      (g.0, g.1 ++ h.1, (g.2.0, λ range. ap (λ (ms : List Answered). ms ++ h.1) g.2.1 ∙ ap (λ (ms : List Answered). heads form g.2.0 ++ ms) (h.2 range)), whole),
 )

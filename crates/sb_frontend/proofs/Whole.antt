@@ -1,4 +1,4 @@
--- What a connection did from its first byte on goes on with each call.
+-- Each call goes on with all that a connection did from its first byte on.
 use Rattle.std.proofs.Common.{◌≡◌, ◌≤◌, ◌+◌, ◌-◌, ℕ, Bool, true, List, [], ◌∷◌, ◌++◌, length, drop, refl, sym, ap, ◌∙◌, arith, append_assoc, length-append}
 use Rattle.std.specs.List.{flat_map}
 use Rattle.std.proofs.lemmas.List.{drop-append-le, drop-drop, length-drop}

@@ -1,55 +1,28 @@
 -- Promise: a conversation in messages: a client names a tenant, brings a key where one is asked for, and then makes queries.
-use Rattle.std.specs.Prelude.{◌≡◌, ◌⊎◌, ◌<◌, ◌==◌, ◌&&◌, if◌then◌else◌, ℕ, Bool, true, false, MatchBool, List, [], ◌∷◌, ◌++◌, length, map, codes, Option, Some, None}
-use Rattle.sb_postgres.specs.declared.server_message.TransactionStatus.{TransactionStatus}
-use Rattle.sb_postgres.specs.declared.server_message.TransactionStatus.TheVariants.{Idle, Open}
+use Rattle.std.specs.Prelude.{◌≡◌, ◌⊎◌, ◌<◌, ◌==◌, ◌&&◌, if◌then◌else◌, ℕ, true, false, MatchBool, List, [], ◌∷◌, ◌++◌, length, map, codes, Option, Some, None}
 use Rattle.sb_postgres.specs.declared.told.settings.TheConstants.{REPORTED}
 use Rattle.sb_postgres.specs.declared.told.sqlstate.SqlState.{SqlState}
 use Rattle.sb_postgres.specs.declared.told.sqlstate.SqlState.TheVariants as state
-use Rattle.sb_postgres.specs.Answers.{Answered, AuthenticationCleartextPassword, AuthenticationOk, BackendKeyData, NegotiateProtocolVersion, ParameterStatus, ReadyForQuery}
+use Rattle.sb_postgres.specs.Answers.{Answered, AuthenticationCleartextPassword, AuthenticationOk, BackendKeyData, NegotiateProtocolVersion, ParameterStatus}
 use Rattle.sb_postgres.specs.Lines.{Lines}
 use Rattle.sb_postgres.specs.Messages.{Said}
+use Rattle.sb_postgres.specs.Messages as messages
 use Rattle.sb_postgres.specs.Startup.{Started, SslRequest, GssEncRequest, CancelRequest, Startup}
 use Rattle.sb_postgres.specs.Statements.{HasLines}
 use Rattle.sb_frontend.specs.declared.phase.Phase.{Phase}
 use Rattle.sb_frontend.specs.declared.phase.Phase.TheVariants as phase
 use Rattle.sb_frontend.specs.declared.start.OpenError.{OpenError}
-use Rattle.sb_frontend.specs.Demands.{Demanded, End, Enter, Play, Synchronize, Nothing, Unsupported, Misplaced, demand_of}
+use Rattle.sb_frontend.specs.Demands.{Demanded, End, Enter, Play, Synchronize, Nothing, Extend, Misplaced, demand_of}
+use Rattle.sb_frontend.specs.Extended.{Binds, Closes, Describes, Executes, Parses, Synchronizes}
 use Rattle.sb_frontend.specs.Outputs.{error_of, written}
 use Rattle.sb_frontend.specs.Plays.{Queries, Spot}
+use Rattle.sb_frontend.specs.Portals.{nothing_prepared}
+pub use Rattle.sb_frontend.specs.Standings.{Part, Standing, at_start, has_in, in_phase, ready, status_of}
 use Rattle.sb_frontend.specs.Starts.{AreInUse, RefusesAll, Source, options_of, session_count, state_of, tenant_of, text_of}
-
--- where it stands, and its session, once that is open
-pub record Standing : Type 0 where
-  pub phase : Phase
-  pub spot : Option Spot
-
-abbrev pub at_start : Standing
-at_start = record { phase = phase.Starting; spot = None }
-
-abbrev pub in_phase : Phase → Standing → Standing
-in_phase p old = record old { phase = p }
-
--- a part of it: where it stood, what is told, and where it stands then
-abbrev pub Part : Type 1
-Part = Standing → List Answered → Standing → Type 0
 
 -- an error ends it
 abbrev pub TurnsAway : SqlState → List ℕ → Part
 TurnsAway why message old ms new = (ms ≡ error_of why message ∷ []) × (new ≡ in_phase phase.Over old)
-
--- ---- ready for a query
-
-abbrev pub status_of : Bool → TransactionStatus
-status_of true = Open
-status_of false = Idle
-
-abbrev pub has_in : Option Spot → Bool
-has_in None = false
-has_in (Some spot) = spot.has
-
--- it tells whether there is a transaction
-abbrev pub ready : Option Spot → Answered
-ready spot = ReadyForQuery (status_of (has_in spot))
 
 -- ---- a session is opened
 
@@ -58,7 +31,7 @@ abbrev pub fresh : ℕ → ℕ → Spot
 fresh tenant number = record { tenant = tenant; number = number; exchanges = []; has = false; own = false }
 
 abbrev pub seated : ℕ → ℕ → Standing
-seated tenant number = record { phase = phase.Ready; spot = Some (fresh tenant number) }
+seated tenant number = record { phase = phase.Ready; spot = Some (fresh tenant number); work = nothing_prepared }
 
 -- what a client is told of it
 abbrev pub welcome : ℕ → Option Spot → List Answered
@@ -119,19 +92,19 @@ PlaysIn text (Some old) ms new =
     (spot : Spot) × (told : List Answered) × (ls : Lines) × HasLines 0 text ls × Queries ls old told spot × (new ≡ Some spot) × (ms ≡ told ++ ready (Some spot) ∷ [])
 
 abbrev pub PlaysHere : List ℕ → Part
-PlaysHere text old ms new = (new.phase ≡ old.phase) × PlaysIn text old.spot ms new.spot
-
-abbrev pub Synchronizes : Part
-Synchronizes old ms new = (ms ≡ ready old.spot ∷ []) × (new ≡ in_phase phase.Ready old)
-
-abbrev pub unsupported_text : List ℕ
-unsupported_text = codes "the extended query protocol is not supported"
-
-abbrev pub Skips : Part
-Skips old ms new = (ms ≡ error_of state.FeatureNotSupported unsupported_text ∷ []) × (new ≡ in_phase phase.Skipping old)
+PlaysHere text old ms new = (new.phase ≡ old.phase) × (new.work ≡ old.work) × PlaysIn text old.spot ms new.spot
 
 abbrev pub misplaced_text : List ℕ
 misplaced_text = codes "this message is not expected here"
+
+-- a message of the extended query
+abbrev pub ExtendsBy : Said → Part
+ExtendsBy (messages.Parse name text types) old ms new = Parses name text types old ms new
+ExtendsBy (messages.Bind portal statement formats values results) old ms new = Binds portal statement formats values results old ms new
+ExtendsBy (messages.Describe t name) old ms new = Describes t name old ms new
+ExtendsBy (messages.Execute portal rows) old ms new = Executes portal rows old ms new
+ExtendsBy (messages.Close t name) old ms new = Closes t name old ms new
+ExtendsBy m old ms new = TurnsAway state.ProtocolViolation misplaced_text old ms new
 
 abbrev pub Meets : Source → Demanded → Part
 Meets source End old ms new = (ms ≡ []) × (new ≡ in_phase phase.Over old)
@@ -139,7 +112,7 @@ Meets source (Enter tenant key) old ms new = Enters source tenant key old ms new
 Meets source (Play text) old ms new = PlaysHere text old ms new
 Meets source Synchronize old ms new = Synchronizes old ms new
 Meets source Nothing old ms new = (ms ≡ []) × (new ≡ old)
-Meets source Unsupported old ms new = Skips old ms new
+Meets source (Extend m) old ms new = ExtendsBy m old ms new
 Meets source Misplaced old ms new = TurnsAway state.ProtocolViolation misplaced_text old ms new
 
 abbrev pub AnswersMessage : Source → Said → Part

@@ -1,6 +1,6 @@
 -- Promise: what a message asks of a conversation, by where that stands.
 use Rattle.std.specs.Prelude.{ℕ, List, Option}
-use Rattle.sb_postgres.specs.Messages.{Said, Query, Flush, Sync, Terminate, Password}
+use Rattle.sb_postgres.specs.Messages.{Said, said, Query, Flush, Sync, Terminate, Password}
 use Rattle.sb_frontend.specs.declared.demand.Demand.{Demand}
 use Rattle.sb_frontend.specs.declared.demand.Demand.TheVariants as code
 use Rattle.sb_frontend.specs.declared.phase.Phase.{Phase}
@@ -13,7 +13,7 @@ pub data Demanded : Type 0 where
   Play : (text : List ℕ) → Demanded
   Synchronize : Demanded
   Nothing : Demanded
-  Unsupported : Demanded
+  Extend : (m : Said) → Demanded
   Misplaced : Demanded
 
 abbrev pub demanded : Demand → Demanded
@@ -22,7 +22,7 @@ demanded (code.Enter tenant key) = Enter tenant key.now
 demanded (code.Play text) = Play text.now
 demanded code.Synchronize = Synchronize
 demanded code.Nothing = Nothing
-demanded code.Unsupported = Unsupported
+demanded (code.Extend message) = Extend (said message.now)
 demanded code.Misplaced = Misplaced
 
 -- where a key was asked for
@@ -38,7 +38,7 @@ ready Sync = Synchronize
 ready Flush = Nothing
 ready Terminate = End
 ready (Password key) = Misplaced
-ready m = Unsupported
+ready m = Extend m
 
 -- behind an error, up to the next Sync
 abbrev pub skipping : Said → Demanded

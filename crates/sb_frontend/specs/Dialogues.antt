@@ -127,7 +127,7 @@ Answers source old new =
 abbrev pub IsSettled : Dialogue → Type 0
 IsSettled d = (is_over d.at.phase ≡ true) ⊎ ((d.out.failed ≡ true) ⊎ ((has_room d ≡ false) ⊎ IsPartial (is_starting d.at.phase) d.waiting))
 
--- What a connection did from its first byte on: it answered these, one behind the other; unless memory ran out, the first bytes of the text that
+-- A connection answered these from its first byte on, one behind the other; unless memory ran out, the first bytes of the text that
 -- answers them were sent, and the others are to be sent.
 pub record Converses (source : Source) (d : Dialogue) : Type 0 where
   pub items : List Item

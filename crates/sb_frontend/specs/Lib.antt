@@ -16,3 +16,10 @@ pub mod Talking
 pub mod Dialogues
 pub mod Takings
 pub mod Steps
+pub mod Names
+pub mod Denials
+pub mod Outcomes
+pub mod Arguments
+pub mod Portals
+pub mod Standings
+pub mod Extended

@@ -7,6 +7,8 @@ use Rattle.sb_postgres.specs.declared.query.error.QueryError.TheVariants as erro
 use Rattle.sb_postgres.specs.Answers.{Answered, EmptyQueryResponse}
 use Rattle.sb_postgres.specs.Kinds.{kind_of}
 use Rattle.sb_postgres.specs.Lines.{Lines, end, refused, line, ending}
+use Rattle.sb_frontend.specs.declared.form.Form.{Form}
+use Rattle.sb_frontend.specs.Columns.{with_columns}
 use Rattle.sb_frontend.specs.Outputs.{completed}
 use Rattle.sb_frontend.specs.Replies.{Exchange, Replied, exchange, goes_well}
 use Rattle.sb_frontend.specs.Scripts.{TellsUnread}
@@ -69,20 +71,20 @@ abbrev pub GivesUp : Spot → Spot → Type 0
 GivesUp old new = MatchBool (old.own && old.has) ((reply : Replied) × Calls (codes "rollback") reply (owned false old) new) (new ≡ owned false old)
 
 -- the statement's line is sent, if it has one, and what came of it is told; it went well where there is a tag
-abbrev pub Sends : StatementKind → List ℕ → Option (List ℕ) → Spot → List Answered → Option (List ℕ) → Spot → Type 0
-Sends kind bytes (Some sent) old ms tag new = (reply : Replied) × Calls sent reply old new × TellsReply kind reply ms × (tag ≡ reply_tag kind bytes reply)
-Sends kind bytes None old ms tag new = (new ≡ old) × TellsWithout kind bytes old.has old.own ms × (tag ≡ without_tag kind bytes)
+abbrev pub Sends : Form → StatementKind → List ℕ → Option (List ℕ) → Spot → List Answered → Option (List ℕ) → Spot → Type 0
+Sends form kind bytes (Some sent) old ms tag new = (reply : Replied) × Calls sent reply old new × TellsReply form kind reply ms × (tag ≡ reply_tag kind bytes reply)
+Sends form kind bytes None old ms tag new = (new ≡ old) × TellsWithout form kind bytes old.has old.own ms × (tag ≡ without_tag kind bytes)
 
-abbrev pub Runs : List ℕ → Spot → List Answered → Option (List ℕ) → Spot → Type 0
-Runs bytes old ms tag new =
-    (sent : Spot) × Sends (kind_of bytes) bytes (line_for (kind_of bytes) old.has bytes) old ms tag sent
+abbrev pub Runs : Form → List ℕ → Spot → List Answered → Option (List ℕ) → Spot → Type 0
+Runs form bytes old ms tag new =
+    (sent : Spot) × Sends form (kind_of bytes) bytes (line_for (kind_of bytes) old.has bytes) old ms tag sent
     × MatchBool (is_some tag) (new ≡ owned (own_after (kind_of bytes) sent.own) sent) (GivesUp sent new)
 
 -- a statement: its transaction, then its line
-abbrev pub PlaysOne : List ℕ → Spot → List Answered → Option (List ℕ) → Spot → Type 0
-PlaysOne bytes old ms tag new =
+abbrev pub PlaysOne : Form → List ℕ → Spot → List Answered → Option (List ℕ) → Spot → Type 0
+PlaysOne form bytes old ms tag new =
     (begun : Spot) × (before : List Answered) × (begins : Bool) × Begins (needs_transaction (kind_of bytes) && not old.has) old before begins begun
-    × MatchBool begins ((behind : List Answered) × Runs bytes begun behind tag new × (ms ≡ before ++ behind)) (GivesUp begun new × (tag ≡ None) × (ms ≡ before))
+    × MatchBool begins ((behind : List Answered) × Runs form bytes begun behind tag new × (ms ≡ before ++ behind)) (GivesUp begun new × (tag ≡ None) × (ms ≡ before))
 
 -- ---- all statements of a query
 
@@ -106,9 +108,9 @@ pub data PlaysAll : Option (List ℕ) → Lines → Spot → List Answered → S
   finished : {tag : Option (List ℕ)} {old new : Spot} {all : List Answered} (ms : List Answered) (well : Bool) → Commits old ms well new
       → all ≡ ms ++ completed (kept well tag) → PlaysAll tag end old all new
   goes_on : {tag : Option (List ℕ)} {bytes places : List ℕ} {lines : Lines} {old new : Spot} {all : List Answered} (next : Option (List ℕ)) (mid : Spot) (ms more : List Answered)
-      → PlaysOne bytes old ms next mid → is_some next ≡ true → PlaysAll next lines mid more new → all ≡ completed tag ++ (ms ++ more) → PlaysAll tag (line bytes places lines) old all new
+      → PlaysOne with_columns bytes old ms next mid → is_some next ≡ true → PlaysAll next lines mid more new → all ≡ completed tag ++ (ms ++ more) → PlaysAll tag (line bytes places lines) old all new
   stops : {tag : Option (List ℕ)} {bytes places : List ℕ} {lines : Lines} {old new : Spot} {all : List Answered} (ms : List Answered)
-      → PlaysOne bytes old ms None new → all ≡ completed tag ++ ms → PlaysAll tag (line bytes places lines) old all new
+      → PlaysOne with_columns bytes old ms None new → all ≡ completed tag ++ ms → PlaysAll tag (line bytes places lines) old all new
   breaks : {tag : Option (List ℕ)} {lines : Lines} {old new : Spot} {all : List Answered} (error : QueryError) (ms : List Answered)
       → IsEndedBy error lines → TellsUnread error ms → GivesUp old new → all ≡ completed tag ++ ms → PlaysAll tag lines old all new
 

@@ -13,6 +13,7 @@ use Rattle.sb_postgres.specs.Kinds.{behind_space}
 use Rattle.sb_postgres.specs.Settings.{setting_of}
 use Rattle.sb_postgres.specs.Tags.{tag_of}
 use Rattle.sb_value.specs.declared.value.ColumnType.TheVariants.{Int, Text}
+use Rattle.sb_frontend.specs.declared.form.Form.{Form}
 use Rattle.sb_frontend.specs.Columns.{one_value}
 use Rattle.sb_frontend.specs.Outputs.{FailsBy, notice_of}
 
@@ -38,24 +39,24 @@ warnings kind has own = []
 abbrev pub name_shown : List ℕ → List ℕ
 name_shown bytes = behind_space (drop (prefix_len is_word bytes) bytes)
 
-abbrev pub TellsSetting : List ℕ → Option (List ℕ) → List Answered → Type 0
-TellsSetting name (Some value) ms = ms ≡ one_value name Text value
-TellsSetting name None ms = FailsBy state.UndefinedObject (codes "unrecognized configuration parameter") ms
+abbrev pub TellsSetting : Form → List ℕ → Option (List ℕ) → List Answered → Type 0
+TellsSetting form name (Some value) ms = ms ≡ one_value form name Text value
+TellsSetting form name None ms = FailsBy state.UndefinedObject (codes "unrecognized configuration parameter") ms
 
 abbrev pub unsupported_text : List ℕ → List ℕ
 unsupported_text bytes = take (prefix_len is_word bytes) bytes ++ codes " is not supported"
 
 -- by whether there is a transaction, and whether that was begun without being asked for
-abbrev pub TellsWithout : StatementKind → List ℕ → Bool → Bool → List Answered → Type 0
-TellsWithout k.Begin bytes has own ms = ms ≡ warnings k.Begin has own
-TellsWithout k.Commit bytes has own ms = ms ≡ warnings k.Commit has own
-TellsWithout k.Rollback bytes has own ms = ms ≡ warnings k.Rollback has own
-TellsWithout k.Setting bytes has own ms = ms ≡ []
-TellsWithout k.SelectOne bytes has own ms = ms ≡ one_value (codes "?column?") Int (codes "1")
-TellsWithout k.SelectVersion bytes has own ms = ms ≡ one_value (codes "version") Text VERSION.now
-TellsWithout k.SelectSchema bytes has own ms = ms ≡ one_value (codes "current_schema") Text (codes "public")
-TellsWithout k.Show bytes has own ms = TellsSetting (name_shown bytes) (setting_of (name_shown bytes)) ms
-TellsWithout kind bytes has own ms = FailsBy state.FeatureNotSupported (unsupported_text bytes) ms
+abbrev pub TellsWithout : Form → StatementKind → List ℕ → Bool → Bool → List Answered → Type 0
+TellsWithout form k.Begin bytes has own ms = ms ≡ warnings k.Begin has own
+TellsWithout form k.Commit bytes has own ms = ms ≡ warnings k.Commit has own
+TellsWithout form k.Rollback bytes has own ms = ms ≡ warnings k.Rollback has own
+TellsWithout form k.Setting bytes has own ms = ms ≡ []
+TellsWithout form k.SelectOne bytes has own ms = ms ≡ one_value form (codes "?column?") Int (codes "1")
+TellsWithout form k.SelectVersion bytes has own ms = ms ≡ one_value form (codes "version") Text VERSION.now
+TellsWithout form k.SelectSchema bytes has own ms = ms ≡ one_value form (codes "current_schema") Text (codes "public")
+TellsWithout form k.Show bytes has own ms = TellsSetting form (name_shown bytes) (setting_of (name_shown bytes)) ms
+TellsWithout form kind bytes has own ms = FailsBy state.FeatureNotSupported (unsupported_text bytes) ms
 
 abbrev pub shown_tag : Option (List ℕ) → Option (List ℕ)
 shown_tag (Some value) = Some one_found

@@ -7,10 +7,12 @@ use Rattle.sb_postgres.specs.declared.query.kind.StatementKind.{StatementKind}
 use Rattle.sb_postgres.specs.declared.query.kind.StatementKind.TheVariants as k
 use Rattle.sb_postgres.specs.declared.told.sqlstate.SqlState.TheVariants as state
 use Rattle.sb_postgres.specs.declared.told.tag.Effect.TheVariants as effect
-use Rattle.sb_postgres.specs.Answers.{Answered, RowDescription, SeenColumn}
+use Rattle.sb_postgres.specs.Answers.{Answered, SeenColumn}
 use Rattle.sb_postgres.specs.SqlStates.{state_of}
 use Rattle.sb_postgres.specs.Tags.{tag_of}
 use Rattle.sb_postgres.specs.Wordings.{message_of}
+use Rattle.sb_frontend.specs.declared.form.Form.{Form}
+use Rattle.sb_frontend.specs.Columns.{heads}
 use Rattle.sb_frontend.specs.Considerations.{notices}
 use Rattle.sb_frontend.specs.Outputs.{FailsBy}
 use Rattle.sb_frontend.specs.Replies.{Replied, Done, Changed, Found, Processed, ByRule, ByError, ByLimit, Refused, NotBegun}
@@ -54,19 +56,19 @@ defines k.Definition = true
 defines kind = false
 
 -- the columns of a query's rows
-abbrev pub AreColumns : List Answered → Type 0
-AreColumns ms = (columns : List SeenColumn) × (ms ≡ RowDescription columns ∷ [])
+abbrev pub AreColumns : Form → List Answered → Type 0
+AreColumns form ms = (columns : List SeenColumn) × (ms ≡ heads form columns)
 
 -- these, and a message for each row
-abbrev pub TellsRows : List (List Value) → List Answered → Type 0
-TellsRows rows ms = (columns : List SeenColumn) × (RowsAreInRange rows → ms ≡ RowDescription columns ∷ map data_row rows)
+abbrev pub TellsRows : Form → List (List Value) → List Answered → Type 0
+TellsRows form rows ms = (columns : List SeenColumn) × (RowsAreInRange rows → ms ≡ heads form columns ++ map data_row rows)
 
-abbrev pub TellsReply : StatementKind → Replied → List Answered → Type 0
-TellsReply kind Done ms = ms ≡ []
-TellsReply kind (Changed count) ms = ms ≡ []
-TellsReply kind (Found rows) ms = TellsRows rows ms
-TellsReply kind (Processed rules) ms = ms ≡ notices rules
-TellsReply kind reply ms = TellsFailure (defines kind) reply ms
+abbrev pub TellsReply : Form → StatementKind → Replied → List Answered → Type 0
+TellsReply form kind Done ms = ms ≡ []
+TellsReply form kind (Changed count) ms = ms ≡ []
+TellsReply form kind (Found rows) ms = TellsRows form rows ms
+TellsReply form kind (Processed rules) ms = ms ≡ notices rules
+TellsReply form kind reply ms = TellsFailure (defines kind) reply ms
 
 -- the tag of a line that went well
 abbrev pub reply_tag : StatementKind → List ℕ → Replied → Option (List ℕ)

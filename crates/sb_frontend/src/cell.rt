@@ -62,7 +62,7 @@ fn read_cell(alloc: Global, text: &[u8]) -> Result<(Vec<u8>, &[u8]), AllocError>
     }
 }
 
-/// Whether a comma follows, and what stands behind it or behind what follows in its place.
+/// True if a comma follows, with all that stands behind it or behind the byte in its place.
 fn separated(text: &[u8]) -> Option<(bool, &[u8])>
     ensures { option_map (λ p. (p.0, p.1.now)) result ≡ spec.separated text.now }
 {

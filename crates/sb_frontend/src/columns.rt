@@ -5,6 +5,7 @@ ghost use Rattle.sb_frontend.specs.Outputs as output;
 ghost use Rattle.sb_frontend.specs.Columns as spec;
 
 use crate::describe::Heading;
+use crate::form::Form;
 use crate::output::Output;
 use sb_postgres::{Column, ServerMessage};
 use sb_value::ColumnType;
@@ -12,12 +13,12 @@ use std::alloc::{AllocError, Global};
 
 /// A type as a client knows it: its number, and the bytes of its values, or 65,535 where they vary.
 #[derive(Clone, Copy)]
-struct ClientType {
-    id: u32,
+pub(crate) struct ClientType {
+    pub(crate) id: u32,
     len: u16,
 }
 
-fn client_type(of: ColumnType) -> ClientType
+pub(crate) fn client_type(of: ColumnType) -> ClientType
     ensures { (result.id, result.len) ≡ spec.client_type of }
 {
     match of {
@@ -46,8 +47,17 @@ fn columns_of<'a>(alloc: Global, headings: &'a [Heading]) -> Result<Vec<Column<'
     Ok(columns)
 }
 
+/// Tells the columns of rows, unless they were told before.
+pub(crate) fn say_columns(alloc: Global, out: &mut Output, form: Form, headings: &[Heading])
+    ensures { output.Says (spec.heads form (map spec.column_of headings.now)) out.old out.new }
+{
+    if form.described {
+        say_description(alloc, out, headings);
+    }
+}
+
 /// Tells the columns of rows.
-pub(crate) fn say_columns(alloc: Global, out: &mut Output, headings: &[Heading])
+pub(crate) fn say_description(alloc: Global, out: &mut Output, headings: &[Heading])
     ensures { output.Says (RowDescription (map spec.column_of headings.now) ∷ []) out.old out.new }
 {
     match columns_of(alloc, headings) {
@@ -67,19 +77,26 @@ fn heading(alloc: Global, name: &[u8], of: ColumnType) -> Result<Heading, AllocE
 }
 
 /// Tells the one column of a row.
-fn say_heading(alloc: Global, out: &mut Output, name: &[u8], of: ColumnType)
-    ensures { output.Says (RowDescription (spec.column name.now of ∷ []) ∷ []) out.old out.new }
+pub(crate) fn say_heading(alloc: Global, out: &mut Output, form: Form, name: &[u8], of: ColumnType)
+    ensures { output.Says (spec.heads form (spec.column name.now of ∷ [])) out.old out.new }
 {
     match heading(alloc, name, of) {
-        Ok(heading) => say_columns(alloc, out, &[heading]),
+        Ok(heading) => say_columns(alloc, out, form, &[heading]),
         Err(_) => out.fail(),
     }
 }
 
 /// Tells one row of one value.
-pub(crate) fn say_value(alloc: Global, out: &mut Output, name: &[u8], of: ColumnType, value: &[u8])
-    ensures { output.Says (spec.one_value name.now of value.now) out.old out.new }
+pub(crate) fn say_value(
+    alloc: Global,
+    out: &mut Output,
+    form: Form,
+    name: &[u8],
+    of: ColumnType,
+    value: &[u8],
+)
+    ensures { output.Says (spec.one_value form name.now of value.now) out.old out.new }
 {
-    say_heading(alloc, out, name, of);
+    say_heading(alloc, out, form, name, of);
     out.say(&ServerMessage::DataRow(&[Some(value)]));
 }

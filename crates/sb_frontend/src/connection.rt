@@ -120,7 +120,7 @@ impl<O: SessionSource> FrontendConnection<O> {
 
     /// Ends the connection. Its session, if it was opened.
     pub fn into_session(self) -> Option<O::Session>
-        // What it did from its first byte on.
+        // All that it did from its first byte on.
         ensures conversation { spec.Converses O.source self }
         ensures session { MatchOption result (self.at.spot ≡ None)
             (λ s. IfSome self.at.spot (λ spot. (spot.exchanges ≡ O.Session.exchanges s) × (spot.has ≡ O.Session.has s))) }

@@ -12,6 +12,7 @@ ghost use Rattle.sb_frontend.specs.Talking as talking;
 
 use crate::demand::{Demand, demand_of};
 use crate::describe::Describe;
+use crate::form::Form;
 use crate::output::Output;
 use crate::phase::Phase;
 use crate::play::Speaker;
@@ -19,6 +20,7 @@ use crate::session::LineSession;
 use crate::start::{SessionSource, open_least, options_of, state_of, tenant_of, text_of};
 use crate::taken::Taken;
 use crate::tell::Teller;
+use crate::workbench::Workbench;
 use sb_postgres::told::{REPORTED, Setting, SqlState};
 use sb_postgres::{
     ClientMessage, Parameter, ReadError, ServerMessage, StartupPacket, TransactionStatus,
@@ -31,10 +33,11 @@ use std::sync::Wait;
 /// A session, once it is open, and the messages that are to be sent.
 #[derive(Drop)]
 pub(crate) struct Conversation<S: LineSession> {
-    alloc: Global,
+    pub(crate) alloc: Global,
     pub(crate) out: Output,
-    phase: Phase,
-    speaker: Option<Speaker<S>>,
+    pub(crate) phase: Phase,
+    pub(crate) speaker: Option<Speaker<S>>,
+    pub(crate) work: Workbench,
 }
 
 impl<S: LineSession> Model for Conversation<S> {
@@ -42,7 +45,7 @@ impl<S: LineSession> Model for Conversation<S> {
 
     ghost Value = { Talking };
 
-    ghost view = { λ c. record { at = record { phase = c.phase; spot = c.speaker }; out = c.out } };
+    ghost view = { λ c. record { at = record { phase = c.phase; spot = c.speaker; work = c.work }; out = c.out } };
 }
 
 fn status_of(has: bool) -> TransactionStatus
@@ -93,10 +96,11 @@ impl<S: LineSession> Conversation<S> {
             out: Output::new(alloc),
             phase: Phase::Starting,
             speaker: None,
+            work: Workbench::new(alloc),
         }
     }
 
-    /// Where it stands.
+    /// The phase in which it stands.
     pub(crate) fn phase(&self) -> Phase
         ensures { result ≡ self.now.at.phase }
     {
@@ -114,7 +118,7 @@ impl<S: LineSession> Conversation<S> {
     }
 
     /// Tells that the next query may come, and whether there is a transaction.
-    fn say_ready(&mut self)
+    pub(crate) fn say_ready(&mut self)
         ensures said { output.Says (spec.ready self.old.at.spot ∷ []) self.old.out self.new.out }
         ensures at { self.new.at ≡ self.old.at }
     {
@@ -153,6 +157,7 @@ impl<S: LineSession> Conversation<S> {
         let number = session.number();
         self.speaker = Some(Speaker::new(session));
         self.phase = Phase::Ready;
+        self.work = Workbench::new(self.alloc);
         self.welcome(number);
     }
 
@@ -265,28 +270,10 @@ impl<S: LineSession> Conversation<S> {
             rt,
             alloc: self.alloc,
             describe,
+            form: Form { described: true },
         };
         speaker.play_query(&teller, &mut self.out, text);
         self.say_ready();
-    }
-
-    /// Tells that the next query may come, also behind an error.
-    fn synchronize(&mut self)
-        ensures { talking.Tells spec.Synchronizes self.old self.new }
-    {
-        self.phase = Phase::Ready;
-        self.say_ready();
-    }
-
-    /// Refuses a message of the extended query protocol. Messages are skipped up to the next `Sync`.
-    fn skip(&mut self)
-        ensures { talking.Tells spec.Skips self.old self.new }
-    {
-        self.out.say_error(
-            SqlState::FeatureNotSupported,
-            b"the extended query protocol is not supported",
-        );
-        self.phase = Phase::Skipping;
     }
 
     /// Meets what a message asks.
@@ -303,9 +290,9 @@ impl<S: LineSession> Conversation<S> {
             Demand::End => self.phase = Phase::Over,
             Demand::Enter { tenant, key } => self.enter(rt, source, tenant, key),
             Demand::Play { text } => self.query(rt, describe, text),
-            Demand::Synchronize => self.synchronize(),
+            Demand::Synchronize => self.synchronize(rt),
             Demand::Nothing => {}
-            Demand::Unsupported => self.skip(),
+            Demand::Extend { message } => self.extend(rt, describe, message),
             Demand::Misplaced => self.turn_away(
                 SqlState::ProtocolViolation,
                 b"this message is not expected here",

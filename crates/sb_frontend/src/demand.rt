@@ -1,4 +1,4 @@
-//! What a message asks of a conversation.
+//! The demands of messages on a conversation.
 ghost use Rattle.std.specs.Prelude.{◌≡◌};
 ghost use Rattle.sb_postgres.specs.Messages.{said};
 ghost use Rattle.sb_frontend.specs.Demands as spec;
@@ -6,7 +6,7 @@ ghost use Rattle.sb_frontend.specs.Demands as spec;
 use crate::phase::Phase;
 use sb_postgres::ClientMessage;
 
-/// What a message asks of a conversation.
+/// The demand of a message on a conversation.
 #[derive(Clone, Copy)]
 pub(crate) enum Demand<'a> {
     End,
@@ -17,13 +17,13 @@ pub(crate) enum Demand<'a> {
     /// A transaction that was begun unasked is to be committed.
     Synchronize,
     Nothing,
-    /// A part of the protocol that isn't spoken.
-    Unsupported,
+    /// A message of the extended query.
+    Extend { message: &'a ClientMessage<'a> },
     /// It has no place here.
     Misplaced,
 }
 
-fn asking<'a>(tenant: Option<u32>, message: &ClientMessage<'a>) -> Demand<'a>
+fn asking<'a>(tenant: Option<u32>, message: &'a ClientMessage<'a>) -> Demand<'a>
     ensures { spec.demanded result ≡ spec.asking tenant (said message.now) }
 {
     match message {
@@ -33,7 +33,7 @@ fn asking<'a>(tenant: Option<u32>, message: &ClientMessage<'a>) -> Demand<'a>
     }
 }
 
-fn ready<'a>(message: &ClientMessage<'a>) -> Demand<'a>
+fn ready<'a>(message: &'a ClientMessage<'a>) -> Demand<'a>
     ensures { spec.demanded result ≡ spec.ready (said message.now) }
 {
     match message {
@@ -42,11 +42,11 @@ fn ready<'a>(message: &ClientMessage<'a>) -> Demand<'a>
         ClientMessage::Flush => Demand::Nothing,
         ClientMessage::Terminate => Demand::End,
         ClientMessage::Password { .. } => Demand::Misplaced,
-        _ => Demand::Unsupported,
+        _ => Demand::Extend { message },
     }
 }
 
-fn skipping<'a>(message: &ClientMessage<'a>) -> Demand<'a>
+fn skipping<'a>(message: &'a ClientMessage<'a>) -> Demand<'a>
     ensures { spec.demanded result ≡ spec.skipping (said message.now) }
 {
     match message {
@@ -56,8 +56,8 @@ fn skipping<'a>(message: &ClientMessage<'a>) -> Demand<'a>
     }
 }
 
-/// What a message asks of a conversation that stands here.
-pub(crate) fn demand_of<'a>(phase: Phase, message: &ClientMessage<'a>) -> Demand<'a>
+/// The demand of a message on a conversation in this phase.
+pub(crate) fn demand_of<'a>(phase: Phase, message: &'a ClientMessage<'a>) -> Demand<'a>
     ensures { spec.demanded result ≡ spec.demand_of phase (said message.now) }
 {
     match phase {

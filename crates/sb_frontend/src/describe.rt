@@ -1,4 +1,4 @@
-//! What is known of a tenant beside the replies to its lines.
+//! A describer knows more of a tenant than the replies to its lines tell.
 
 use sb_value::{ColumnType, Name, Refusal};
 use std::alloc::{AllocError, Global};
@@ -20,6 +20,17 @@ pub trait Describe {
         alloc: Global,
         line: &[u8],
     ) -> Result<Vec<Heading>, AllocError>;
+
+    /// The types of a line's parameters, as far as they are known: first that of `$1`. One that isn't known is a text.
+    /// Error: out of memory.
+    fn parameter_types<R: Wait>(
+        &self,
+        _rt: &R,
+        alloc: Global,
+        _line: &[u8],
+    ) -> Result<Vec<ColumnType>, AllocError> {
+        Ok(Vec::new(alloc))
+    }
 
     /// The name that a refusal of a line is about, if it can be told. Error: out of memory.
     fn about<R: Wait>(

@@ -1,6 +1,6 @@
-//! Where a conversation stands.
+//! The phases of a conversation.
 
-/// Where a conversation in messages stands.
+/// The phase of a conversation in messages.
 #[derive(Clone, Copy, Debug, PartialEq, Eq)]
 pub enum Phase {
     /// Before the packet that names a session.

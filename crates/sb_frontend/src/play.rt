@@ -4,6 +4,7 @@ ghost use Rattle.sb_postgres.specs.Answers.{Answered};
 ghost use Rattle.sb_postgres.specs.Kinds.{kind_of};
 ghost use Rattle.sb_postgres.specs.Lines.{Lines, end};
 ghost use Rattle.sb_postgres.specs.Statements.{HasLines, Leaves, bytes_left};
+ghost use Rattle.sb_frontend.specs.Columns.{with_columns};
 ghost use Rattle.sb_frontend.specs.Outputs as output;
 ghost use Rattle.sb_frontend.specs.Plays as spec;
 ghost use Rattle.sb_frontend.specs.Replies.{Replied, goes_well};
@@ -11,11 +12,12 @@ ghost use Rattle.sb_frontend.specs.Stepless.{TellsWithout, without_tag};
 ghost use Rattle.sb_frontend.specs.Tellings as tellings;
 
 use crate::describe::Describe;
+use crate::form::Form;
 use crate::output::Output;
 use crate::script::tell_unread;
 use crate::session::LineSession;
 use crate::tell::{Teller, tell_own};
-use crate::without::tell_without;
+use crate::without::{TransactionState, tell_without};
 use sb_postgres::ServerMessage;
 use sb_postgres::query::{QueryError, Statement, StatementKind, Statements, kind_of};
 use std::alloc::Global;
@@ -81,17 +83,22 @@ fn needs_begin(statement: &Statement, has: bool) -> bool
 fn tell_stepless(
     alloc: Global,
     out: &mut Output,
+    form: Form,
     statement: &Statement,
     has: bool,
     own: bool,
 ) -> bool
     requires { out.old.held ≡ None }
     ensures well { result ≡ is_some (without_tag (kind_of statement.now.line.items) statement.now.line.items) }
-    ensures told { output.TellsSome (TellsWithout (kind_of statement.now.line.items) statement.now.line.items has own)
+    ensures told { output.TellsSome (TellsWithout form (kind_of statement.now.line.items) statement.now.line.items has own)
         (without_tag (kind_of statement.now.line.items) statement.now.line.items) out.old out.new }
 {
     let line = statement.line.as_slice();
-    tell_without(alloc, out, kind_of(line), line, has, own)
+    let transaction = TransactionState {
+        is_open: has,
+        is_own: own,
+    };
+    tell_without(alloc, out, form, kind_of(line), line, transaction)
 }
 
 fn own_after(kind: StatementKind, own: bool) -> bool
@@ -177,7 +184,7 @@ impl<S: LineSession> Speaker<S> {
     }
 
     /// Rolls a transaction back that was begun unasked.
-    fn give_up<R: Wait>(&mut self, rt: &R, alloc: Global)
+    pub(crate) fn give_up<R: Wait>(&mut self, rt: &R, alloc: Global)
         ensures { spec.GivesUp self.old self.new }
     {
         let has_own = self.has_own();
@@ -197,7 +204,7 @@ impl<S: LineSession> Speaker<S> {
     ) -> bool
         requires { out.old.held ≡ None }
         ensures { (reply : Replied) × spec.Calls sent.now reply self.old self.new
-            × output.TellsSome (tellings.TellsReply (kind_of statement.now.line.items) reply) (tellings.reply_tag (kind_of statement.now.line.items) statement.now.line.items reply) out.old out.new
+            × output.TellsSome (tellings.TellsReply teller.now.form (kind_of statement.now.line.items) reply) (tellings.reply_tag (kind_of statement.now.line.items) statement.now.line.items reply) out.old out.new
             × (result ≡ is_some (tellings.reply_tag (kind_of statement.now.line.items) statement.now.line.items reply)) }
     {
         self.session.call(teller.rt, teller.alloc, sent);
@@ -213,13 +220,20 @@ impl<S: LineSession> Speaker<S> {
     ) -> bool
         requires { out.old.held ≡ None }
         ensures { (ms : List Answered) × (tag : Option (List ℕ))
-            × spec.Sends (kind_of statement.now.line.items) statement.now.line.items (spec.line_for (kind_of statement.now.line.items) self.old.has statement.now.line.items) self.old ms tag self.new
+            × spec.Sends teller.now.form (kind_of statement.now.line.items) statement.now.line.items (spec.line_for (kind_of statement.now.line.items) self.old.has statement.now.line.items) self.old ms tag self.new
             × (result ≡ is_some tag) × output.Tells ms tag out.old out.new }
     {
         let has = self.has_transaction();
         match line_of(statement, has) {
             Some(sent) => self.send_line(teller, out, statement, sent),
-            None => tell_stepless(teller.alloc, out, statement, has, self.is_own()),
+            None => tell_stepless(
+                teller.alloc,
+                out,
+                teller.form,
+                statement,
+                has,
+                self.is_own(),
+            ),
         }
     }
 
@@ -231,7 +245,7 @@ impl<S: LineSession> Speaker<S> {
         statement: &Statement,
     ) -> bool
         requires { out.old.held ≡ None }
-        ensures { (ms : List Answered) × (tag : Option (List ℕ)) × spec.Runs statement.now.line.items self.old ms tag self.new
+        ensures { (ms : List Answered) × (tag : Option (List ℕ)) × spec.Runs teller.now.form statement.now.line.items self.old ms tag self.new
             × (result ≡ is_some tag) × output.Tells ms tag out.old out.new }
     {
         if self.send(teller, out, statement) {
@@ -250,7 +264,7 @@ impl<S: LineSession> Speaker<S> {
         statement: &Statement,
     ) -> bool
         requires { out.old.held ≡ None }
-        ensures { (ms : List Answered) × (tag : Option (List ℕ)) × spec.PlaysOne statement.now.line.items self.old ms tag self.new
+        ensures { (ms : List Answered) × (tag : Option (List ℕ)) × spec.PlaysOne teller.now.form statement.now.line.items self.old ms tag self.new
             × (result ≡ is_some tag) × output.Tells ms tag out.old out.new }
     {
         let needed = needs_begin(statement, self.has_transaction());
@@ -290,6 +304,7 @@ impl<S: LineSession> Speaker<S> {
         out: &mut Output,
         statements: &mut Statements<'_>,
     ) -> bool
+        requires { teller.now.form ≡ with_columns }
         ensures played { (tag : Option (List ℕ)) → output.Holds tag out.old → (ls : Lines) → Leaves statements.old ls
             → (ms : List Answered) × output.Extends ms out.old out.new
             × spec.GoesOn tag ls self.old ms result (λ next more. output.Holds next out.new × Leaves statements.new more) self.new }
@@ -317,6 +332,7 @@ impl<S: LineSession> Speaker<S> {
         out: &mut Output,
         statements: &mut Statements<'_>,
     )
+        requires { teller.now.form ≡ with_columns }
         ensures { (tag : Option (List ℕ)) → output.Holds tag out.old → (ls : Lines) → Leaves statements.old ls
             → (ms : List Answered) × spec.PlaysAll tag ls self.old ms self.new × output.Extends ms out.old out.new }
     {
@@ -330,6 +346,7 @@ impl<S: LineSession> Speaker<S> {
         out: &mut Output,
         text: &[u8],
     )
+        requires { teller.now.form ≡ with_columns }
         ensures { (ls : Lines) × HasLines 0 text.now ls
             × (ms : List Answered) × spec.Queries ls self.old ms self.new × output.Extends ms out.old out.new }
     {

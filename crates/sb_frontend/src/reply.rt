@@ -1,9 +1,9 @@
-//! What a session replies to a line.
+//! Replies of a session to its lines.
 
 use sb_rows::SharedRows;
 use sb_value::{Name, Refusal, Verdict};
 
-/// What a session replied to a line.
+/// The reply of a session to a line.
 #[derive(Clone, Copy)]
 pub enum Reply<'a> {
     Done,

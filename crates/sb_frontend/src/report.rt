@@ -16,7 +16,7 @@ pub(crate) struct Report {
     pub(crate) state: SqlState,
     pub(crate) message: Vec<u8>,
     pub(crate) detail: Vec<u8>,
-    /// Where it came from, as a rule.
+    /// The place from which it came, as a rule.
     pub(crate) context: Vec<u8>,
     /// The place in the client's text, in decimal.
     pub(crate) position: Vec<u8>,

@@ -9,7 +9,7 @@ use sb_postgres::query::{Fault, QueryError, Refusal};
 use sb_postgres::told::SqlState;
 use std::alloc::{AllocError, Global};
 
-fn state_of(fault: Fault) -> SqlState
+pub(crate) fn fault_state(fault: Fault) -> SqlState
     ensures { result ≡ spec.fault_state fault }
 {
     match fault {
@@ -21,7 +21,7 @@ fn state_of(fault: Fault) -> SqlState
     }
 }
 
-fn text_of(fault: Fault) -> &'static str
+pub(crate) fn fault_text(fault: Fault) -> &'static str
     ensures { result.now ≡ spec.fault_text fault }
 {
     match fault {
@@ -37,10 +37,10 @@ fn text_of(fault: Fault) -> &'static str
 fn report_of(alloc: Global, refusal: Refusal) -> Result<Report, AllocError>
     ensures { IfOk result (λ r. (r.state ≡ spec.fault_state refusal.fault) × (r.message.items ≡ spec.fault_text refusal.fault)) }
 {
-    let mut report = Report::new(alloc, state_of(refusal.fault));
+    let mut report = Report::new(alloc, fault_state(refusal.fault));
     report
         .message
-        .extend_from_slice(text_of(refusal.fault).as_bytes())?;
+        .extend_from_slice(fault_text(refusal.fault).as_bytes())?;
     push_position(&mut report.position, refusal.at)?;
     Ok(report)
 }

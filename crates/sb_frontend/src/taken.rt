@@ -1,6 +1,6 @@
-//! What became of a message's bytes.
+//! The fate of a message's bytes.
 
-/// What became of a message's bytes.
+/// The fate of a message's bytes.
 #[derive(Clone, Copy, Debug, PartialEq, Eq)]
 pub(crate) enum Taken {
     Answered,

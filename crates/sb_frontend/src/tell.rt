@@ -1,4 +1,4 @@
-//! What a client is told of the replies to its statements.
+//! A client is told the replies to its statements.
 ghost use Rattle.std.specs.Prelude.{◌≡◌, ◌++◌, [], IfOk, None, OnOk, Some, codes, false, is_some, true};
 ghost use Rattle.sb_postgres.specs.Kinds.{kind_of};
 ghost use Rattle.sb_postgres.specs.SqlStates.{state_of};
@@ -10,6 +10,7 @@ ghost use Rattle.sb_frontend.specs.Tellings as spec;
 use crate::columns::say_columns;
 use crate::considered::{note, push_considered};
 use crate::describe::Describe;
+use crate::form::Form;
 use crate::output::Output;
 use crate::reply::Reply;
 use crate::report::{Report, push_position, say_made};
@@ -25,6 +26,7 @@ pub(crate) struct Teller<'a, R, C> {
     pub(crate) rt: &'a R,
     pub(crate) alloc: Global,
     pub(crate) describe: &'a C,
+    pub(crate) form: Form,
 }
 
 impl<'a, R, C> Drop for Teller<'a, R, C> {
@@ -33,6 +35,7 @@ impl<'a, R, C> Drop for Teller<'a, R, C> {
             rt: _,
             alloc: _,
             describe: _,
+            form: _,
         } = self;
     }
 }
@@ -203,14 +206,22 @@ fn near(line: &[u8], place: usize) -> Option<&[u8]> {
     }
 }
 
-/// Where a byte of a statement stands in the client's text, or where the statement ends.
-fn place_in_text(statement: &Statement, place: usize) -> usize {
+/// The place of a statement's byte in the client's text, or of the statement's end, if it is known.
+fn place_in_text(statement: &Statement, place: usize) -> Option<usize> {
     match statement.origin(place) {
-        Some(at) => at,
+        Some(at) => Some(at),
         None => match statement.origins.last() {
-            Some(last) => last.saturating_add(1),
-            None => 0,
+            Some(last) => Some(last.saturating_add(1)),
+            None => None,
         },
+    }
+}
+
+/// Adds a place in the client's text, if it is known.
+fn push_place(out: &mut Vec<u8>, place: Option<usize>) -> Result<(), AllocError> {
+    match place {
+        Some(at) => push_position(out, at),
+        None => Ok(()),
     }
 }
 
@@ -249,7 +260,7 @@ impl<'a, R: Wait, C: Describe> Teller<'a, R, C> {
         let place = self.describe.syntax_place(self.alloc, line);
         let mut report = Report::new(self.alloc, SqlState::SyntaxError);
         push_syntax(&mut report.message, line, place)?;
-        push_position(&mut report.position, place_in_text(statement, place))?;
+        push_place(&mut report.position, place_in_text(statement, place))?;
         Ok(report)
     }
 
@@ -296,19 +307,19 @@ impl<'a, R: Wait, C: Describe> Teller<'a, R, C> {
         say_made(self.alloc, out, made);
     }
 
-    /// Tells the columns of a query's rows.
+    /// Tells the columns of a query's rows, unless they were told before.
     fn tell_columns(&self, out: &mut Output, line: &[u8])
-        ensures { output.SaysSome spec.AreColumns out.old out.new }
+        ensures { output.SaysSome (spec.AreColumns self.now.form) out.old out.new }
     {
         match self.describe.columns_of(self.rt, self.alloc, line) {
-            Ok(headings) => say_columns(self.alloc, out, &headings),
+            Ok(headings) => say_columns(self.alloc, out, self.form, &headings),
             Err(_) => out.fail(),
         }
     }
 
     /// Tells the columns of a query's rows, and the rows.
     fn tell_rows(&self, out: &mut Output, line: &[u8], rows: &SharedRows)
-        ensures { output.SaysSome (spec.TellsRows rows.now) out.old out.new }
+        ensures { output.SaysSome (spec.TellsRows self.now.form rows.now) out.old out.new }
     {
         self.tell_columns(out, line);
         out.say_rows(rows);
@@ -323,7 +334,7 @@ impl<'a, R: Wait, C: Describe> Teller<'a, R, C> {
     ) -> bool
         requires { out.old.held ≡ None }
         ensures well { result ≡ is_some (spec.reply_tag (kind_of statement.now.line.items) statement.now.line.items (replied reply.entry)) }
-        ensures told { output.TellsSome (spec.TellsReply (kind_of statement.now.line.items) (replied reply.entry))
+        ensures told { output.TellsSome (spec.TellsReply self.now.form (kind_of statement.now.line.items) (replied reply.entry))
             (spec.reply_tag (kind_of statement.now.line.items) statement.now.line.items (replied reply.entry)) out.old out.new }
     {
         let line = statement.line.as_slice();

@@ -1,4 +1,4 @@
-//! What a client is told of a statement that makes no step.
+//! A client is told of statements that make no step.
 ghost use Rattle.std.specs.Prelude.{◌≡◌, [], IfOk, None, Some, false, is_some, not, true};
 ghost use Rattle.sb_postgres.specs.Settings.{setting_of};
 ghost use Rattle.sb_postgres.specs.Tags.{tag_of};
@@ -7,6 +7,7 @@ ghost use Rattle.sb_frontend.specs.Outputs as output;
 ghost use Rattle.sb_frontend.specs.Stepless as spec;
 
 use crate::columns::say_value;
+use crate::form::Form;
 use crate::output::Output;
 use crate::report::{Report, say_made};
 use sb_postgres::query::{StatementKind, behind_first_word, first_word};
@@ -35,23 +36,30 @@ fn hold_found(alloc: Global, out: &mut Output)
 }
 
 /// Tells one row of one value, and holds its tag back. It goes well.
-fn tell_value(alloc: Global, out: &mut Output, name: &[u8], of: ColumnType, value: &[u8]) -> bool
+fn tell_value(
+    alloc: Global,
+    out: &mut Output,
+    form: Form,
+    name: &[u8],
+    of: ColumnType,
+    value: &[u8],
+) -> bool
     ensures well { result ≡ true }
-    ensures told { output.Tells (one_value name.now of value.now) (Some spec.one_found) out.old out.new }
+    ensures told { output.Tells (one_value form name.now of value.now) (Some spec.one_found) out.old out.new }
 {
-    say_value(alloc, out, name, of, value);
+    say_value(alloc, out, form, name, of, value);
     hold_found(alloc, out);
     true
 }
 
 /// Tells the value of a setting. True if there is such a setting.
-fn tell_setting(alloc: Global, out: &mut Output, name: &[u8]) -> bool
+fn tell_setting(alloc: Global, out: &mut Output, form: Form, name: &[u8]) -> bool
     requires { out.old.held ≡ None }
     ensures well { result ≡ is_some (spec.shown_tag (setting_of name.now)) }
-    ensures told { output.TellsSome (spec.TellsSetting name.now (setting_of name.now)) (spec.shown_tag (setting_of name.now)) out.old out.new }
+    ensures told { output.TellsSome (spec.TellsSetting form name.now (setting_of name.now)) (spec.shown_tag (setting_of name.now)) out.old out.new }
 {
     match setting_of(name) {
-        Some(value) => tell_value(alloc, out, name, ColumnType::Text, value),
+        Some(value) => tell_value(alloc, out, form, name, ColumnType::Text, value),
         None => {
             out.say_error(
                 SqlState::UndefinedObject,
@@ -121,28 +129,68 @@ fn acknowledge(out: &mut Output, kind: StatementKind, line: &[u8], has: bool, ow
     true
 }
 
+/// The transaction of a session, as a statement finds it.
+#[derive(Clone, Copy)]
+pub(crate) struct TransactionState {
+    pub(crate) is_open: bool,
+    /// It was begun without being asked for.
+    pub(crate) is_own: bool,
+}
+
 /// Tells what a statement does that makes no step, and holds its tag back. True if it went well.
 pub(crate) fn tell_without(
     alloc: Global,
     out: &mut Output,
+    form: Form,
     kind: StatementKind,
     line: &[u8],
-    has: bool,
-    own: bool,
+    transaction: TransactionState,
 ) -> bool
     requires { out.old.held ≡ None }
     ensures well { result ≡ is_some (spec.without_tag kind line.now) }
-    ensures told { output.TellsSome (spec.TellsWithout kind line.now has own) (spec.without_tag kind line.now) out.old out.new }
+    ensures told { output.TellsSome (spec.TellsWithout form kind line.now transaction.is_open transaction.is_own) (spec.without_tag kind line.now) out.old out.new }
 {
     match kind {
-        StatementKind::Begin => acknowledge(out, kind, line, has, own),
-        StatementKind::Commit => acknowledge(out, kind, line, has, own),
-        StatementKind::Rollback => acknowledge(out, kind, line, has, own),
-        StatementKind::Setting => acknowledge(out, kind, line, has, own),
-        StatementKind::SelectOne => tell_value(alloc, out, b"?column?", ColumnType::Int, b"1"),
+        StatementKind::Begin => acknowledge(
+            out,
+            kind,
+            line,
+            transaction.is_open,
+            transaction.is_own,
+        ),
+        StatementKind::Commit => acknowledge(
+            out,
+            kind,
+            line,
+            transaction.is_open,
+            transaction.is_own,
+        ),
+        StatementKind::Rollback => acknowledge(
+            out,
+            kind,
+            line,
+            transaction.is_open,
+            transaction.is_own,
+        ),
+        StatementKind::Setting => acknowledge(
+            out,
+            kind,
+            line,
+            transaction.is_open,
+            transaction.is_own,
+        ),
+        StatementKind::SelectOne => tell_value(
+            alloc,
+            out,
+            form,
+            b"?column?",
+            ColumnType::Int,
+            b"1",
+        ),
         StatementKind::SelectVersion => tell_value(
             alloc,
             out,
+            form,
             b"version",
             ColumnType::Text,
             VERSION,
@@ -150,11 +198,12 @@ pub(crate) fn tell_without(
         StatementKind::SelectSchema => tell_value(
             alloc,
             out,
+            form,
             b"current_schema",
             ColumnType::Text,
             b"public",
         ),
-        StatementKind::Show => tell_setting(alloc, out, behind_first_word(line)),
+        StatementKind::Show => tell_setting(alloc, out, form, behind_first_word(line)),
         StatementKind::Unsupported => tell_unsupported(alloc, out, line),
         StatementKind::Definition => tell_unsupported(alloc, out, line),
         StatementKind::Process => tell_unsupported(alloc, out, line),
