@@ -4,7 +4,7 @@ ghost use Rattle.sb_cell.specs.Renewal.{IsNotRenewed, Renews};
 ghost use Rattle.sb_cell.specs.Renewing.{IsMadeNext};
 
 use crate::cell::Cell;
-use sb_alike::are_alike;
+use sb_tenant::are_alike;
 use sb_tenant::Tenant;
 use std::alloc::Global;
 

@@ -7,7 +7,7 @@ use Rattle.sb_tenant.specs.Alike.{AreAlikeAtRest}
 use Rattle.sb_tenant.specs.State.{State, opening}
 use Rattle.sb_tenant.specs.Tenant.{Tenant, state}
 use Rattle.sb_tenant.specs.Trail.{state_after}
-pub use Rattle.sb_alike.specs.Alike.{is_busy}
+pub use Rattle.sb_tenant.specs.AlikeTenants.{is_busy}
 
 -- each of the lines, sent in the session
 abbrev pub as_session : ℕ → List (List ℕ) → List (ℕ × List ℕ)

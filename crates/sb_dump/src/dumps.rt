@@ -11,7 +11,7 @@ use crate::play::{SendFault, only_tenant, play};
 use crate::rules::{write_inactive, write_rules};
 use crate::script::Script;
 use crate::tables::write_tables;
-use sb_alike::are_alike;
+use sb_tenant::are_alike;
 use sb_tenant::Tenant;
 use std::alloc::{AllocError, Global};
 

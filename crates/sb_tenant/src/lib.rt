@@ -1,6 +1,7 @@
 //! One tenant's steps: a database of its own, specified by the replay of its trail.
 #![tactic(auto)]
 
+mod alike;
 mod answer;
 mod asker;
 mod class;
@@ -24,6 +25,10 @@ mod told;
 mod volume;
 mod work;
 
+pub use alike::laws::{
+    alike_answer_alike, alike_at_rest_are_alike, renewal_is_unseen, sessions_end_and_open_alone,
+};
+pub use alike::{are_alike, is_busy};
 pub use lines::KnownLines;
 pub use places::reserve_here;
 pub use reply::{Answer, Entry, Line, NamedTrace, Reply, RuleError, RuleName};

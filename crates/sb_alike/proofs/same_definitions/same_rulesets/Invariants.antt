@@ -1,6 +1,0 @@
-use Rattle.sb_alike.specs.Compared.{AreSameFrom}
-use Rattle.sb_alike.proofs.same_definitions.same_rulesets.Given as goal
-
--- where the rulesets from here on are the same, all are
-abbrev pub invariant-loop-place : goal.invariant-loop-place
-invariant-loop-place l = AreSameFrom l.one l.other l.place → AreSameFrom l.one l.other 0

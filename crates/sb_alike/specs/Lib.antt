@@ -1,4 +1,0 @@
-pub mod Alike
-pub mod AlikeLaws
-pub mod Compared
-pub mod Renewals
