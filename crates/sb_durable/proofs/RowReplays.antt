@@ -1,5 +1,6 @@
 -- Segments whose records are played one after the other.
-use Rattle.std.proofs.Common.{◌≡◌, ◌+◌, ◌<◌, ℕ, Bool, List, [], ◌∷◌, ◌++◌, length, refl, sym, ap, ◌∙◌, subst, arith, append_assoc, append-nil, slice_index, Some, None, IsTrue}
+use Rattle.std.proofs.Common.{◌≡◌, ◌+◌, ◌<◌, ℕ, Bool, List, [], ◌∷◌, ◌++◌, length, refl, sym, ap, ◌∙◌, subst, arith, append_assoc, append-nil, slice_index, Option, Some, None, IfSome, IsTrue}
+use Rattle.sqlite_disk.specs.declared.Disk.{Ghosts}
 use Rattle.sqlite_disk.specs.Digest.{digest}
 use Rattle.std.specs.List.{AllByRecursion}
 use Rattle.std.specs.Prelude.{map, drop}
@@ -10,11 +11,15 @@ use Rattle.sb_durable.specs.Journal.{contents_of, all_of}
 use Rattle.sb_durable.specs.Records.{Entry, bytes_of}
 use Rattle.sb_durable.specs.Replays.{PlaysAll}
 use Rattle.sb_durable.specs.Restart.{AreRecords}
-use Rattle.sb_durable.specs.Row.{Filed, IsNext, IsRow, IsRowEnd, AreFiled, AreLeft, all_contents}
+use Rattle.sb_durable.specs.Row.{Filed, IsNext, IsRow, HaveSettings, IsRowEnd, AreFiled, AreLeft, all_contents}
+use Rattle.sb_durable.specs.RowJournal.{KeepRow, settings_of}
+use Rattle.sb_durable.specs.RowJournals.{HasRow, disk_of}
+use Rattle.sb_durable.specs.RowOpenings.{OpensRow}
 use Rattle.sb_durable.specs.RowReaders.{StaysRead, filed}
-use Rattle.sb_durable.specs.RowReplays.{AreOfNumbers, ArePlayed, AreRead, HaveAll, PlaysRow, files_of}
+use Rattle.sb_durable.specs.RowReplays.{AreOfNumbers, AreRead, HaveAll, IsReadAs, LeavesUnbegun, PlaysRow, ReadsRow, ReadsWhatIsKept, files_of}
 use Rattle.sb_durable.specs.Segment.{BindsAll, IsBehind, Bears, Knows, Reads, device_of, end_of, head_of}
 use Rattle.sb_durable.specs.declared.journal_header.Head.{Head as Settings}
+use Rattle.sb_durable.specs.declared.row_journal.RowJournal.{RowJournal}
 use Rattle.sb_durable.specs.declared.segment.place.Place.{Place}
 use Rattle.sb_durable.specs.declared.segment.reader.RowReader.{RowReader}
 use Rattle.sb_durable.specs.declared.segment.segment.Segment.{Segment}
@@ -23,6 +28,7 @@ use Rattle.sb_durable.proofs.Heads.{has_begun}
 use Rattle.sb_durable.proofs.Pieces.{contents-append}
 use Rattle.sb_durable.proofs.Records.{are_back, are_front, plays-append}
 use Rattle.sb_durable.proofs.Rows.{row_push}
+use Rattle.sb_durable.proofs.SegmentReading.{one_file_one_segment}
 use Rattle.sb_durable.proofs.SegmentContents.{end-push, size-push}
 
 -- what a segment knows binds it
@@ -132,7 +138,8 @@ filed_split (one ∷ row) (f ∷ files) file filed =
     (one ∷ more.0, more.1, ap (λ (l : List Filed). one ∷ l) more.2, (filed.0, more.3), more.4)
 
 module _ {D S : Type 0} (has : ℕ → List ℕ → Type 0) (seen : D → List ℕ) (is_clean : D → Bool) (plays : S → Entry → S → Type 0) (old new : S) (reader : RowReader D) (fits : IsHead (head_of reader.last)) (number : ℕ) (same : (head_of reader.last).number ≡ number)
-    (own : has number (seen (device_of reader.last))) (begun : IsTrue (is_clean (device_of reader.last)) → IsUnbegun (seen (device_of reader.last)) → ⊥) (batches : List (List Entry)) (binds : IsBehind (head_of reader.last) (contents_of batches) (end_of reader.last))
+    (own : has number (seen (device_of reader.last))) (begun : IsTrue (is_clean (device_of reader.last)) → IsUnbegun (seen (device_of reader.last)) → ⊥)
+    (knows : IsTrue (is_clean (device_of reader.last)) → (head : Head) (contents : List (List ℕ)) → Stands head contents (seen (device_of reader.last)) → Knows seen reader.last contents) (batches : List (List Entry)) (binds : IsBehind (head_of reader.last) (contents_of batches) (end_of reader.last))
     (are : IsTrue (is_clean (device_of reader.last)) → (head : Head) (others : List (List Entry)) → AreRecords (all_of others) → Stands head (contents_of others) (seen (device_of reader.last)) → batches ≡ others) where
   -- the oldest segment was played
   first_has : IsTrue (is_clean (device_of reader.last)) → HaveAll seen (device_of reader.last ∷ []) batches
@@ -154,6 +161,7 @@ module _ {D S : Type 0} (has : ℕ → List ℕ → Type 0) (seen : D → List �
       closed = [];
       files = subst (λ (ns : List ℕ). AreOfNumbers has ns (seen (device_of reader.last) ∷ [])) (sym is) (own, tt);
       begun = begun;
+      knows = knows;
       are = λ clean. first_has clean.0;
     },
     refl,
@@ -191,6 +199,7 @@ module _ {D S : Type 0} (has : ℕ → List ℕ → Type 0) (seen : D → List �
             files = subst (λ (ns : List ℕ). AreOfNumbers has ns (map seen (files ++ device_of reader.last ∷ []))) (sym is)
                 (subst (λ (l : List (List ℕ)). AreOfNumbers has (read ++ number ∷ []) l) (sym (map-append seen files (device_of reader.last ∷ []))) (push_number has read (map seen files) number (seen (device_of reader.last)) p.files own));
             begun = begun;
+            knows = knows;
             are = next_has;
           },
           refl,
@@ -210,44 +219,113 @@ newest_begun row files file left unbegun =
     let parts = filed_split row files file (all_left row (files ++ file ∷ []) left) in
     has_begun parts.1.head _ file parts.4.fits parts.4.begins unbegun
 
-module _ {D S : Type 0} (has : ℕ → List ℕ → Type 0) (seen : D → List ℕ) (is_clean : D → Bool) (plays : S → Entry → S → Type 0) (old new : S) (reader : RowReader D) (numbers : List ℕ) (older : List Filed) (p : PlaysRow has seen is_clean plays old new reader numbers older)
-    (head : Settings) (records : List Entry) (records_are : AreRecords records) where
+-- the row of segments that files keep, none of which has not begun
+record KeptRow (head : Settings) (records : List Entry) (files : List (List ℕ)) : Type 0 where
+  row : List Filed
+  is_row : IsRow row
+  same_settings : HaveSettings (settings_of head) row
+  batches : List (List Entry)
+  all : records ≡ all_of batches
+  bytes : contents_of batches ≡ all_contents row
+  left : AreLeft row files
+
+row_of : (head : Settings) (records : List Entry) (files : List (List ℕ)) → (keeps : KeepRow head records files) → (now : List (List ℕ)) → AreLeft keeps.hold.row now → KeptRow head records now
+row_of head records files keeps now left = record {
+  row = keeps.hold.row;
+  is_row = keeps.hold.is_row;
+  same_settings = keeps.hold.same_settings;
+  batches = keeps.batches;
+  all = keeps.all;
+  bytes = keeps.hold.all;
+  left = left;
+}
+
+module _ (head : Settings) (records : List Entry) (files : List (List ℕ)) (last : List ℕ) where
+  -- the last file has begun
+  begun_by : (IsUnbegun last → ⊥) → (row : List Filed) (begun behind : List (List ℕ)) → AreLeft row begun → files ++ last ∷ [] ≡ begun ++ behind → IsRowEnd behind → AreLeft row (files ++ last ∷ [])
+  begun_by fresh row begun [] left whole over = subst (AreLeft row) (sym (whole ∙ append-nil begun)) left
+  begun_by fresh row begun (file ∷ []) left whole over = let ends = same_from_push files begun last file whole in absurd (fresh (subst IsUnbegun (sym ends.1) over))
+  begun_by fresh row begun (file ∷ other ∷ more) left whole over = absurd over
+
+  -- the last file has not begun
+  unbegun_by : IsUnbegun last → (row : List Filed) (begun behind : List (List ℕ)) → AreLeft row begun → files ++ last ∷ [] ≡ begun ++ behind → IsRowEnd behind → AreLeft row files
+  unbegun_by unbegun row begun [] left whole over = absurd (newest_begun row files last (subst (AreLeft row) (sym (whole ∙ append-nil begun)) left) unbegun)
+  unbegun_by unbegun row begun (file ∷ []) left whole over = let ends = same_from_push files begun last file whole in subst (AreLeft row) (sym ends.0) left
+  unbegun_by unbegun row begun (file ∷ other ∷ more) left whole over = absurd over
+
+  all_begun : (IsUnbegun last → ⊥) → KeepRow head records (files ++ last ∷ []) → KeptRow head records (files ++ last ∷ [])
+  all_begun fresh keeps = let h = keeps.hold in row_of head records (files ++ last ∷ []) keeps (files ++ last ∷ []) (begun_by fresh h.row h.begun h.behind h.are h.whole h.over)
+
+  others_begun : IsUnbegun last → KeepRow head records (files ++ last ∷ []) → KeptRow head records files
+  others_begun unbegun keeps = let h = keeps.hold in row_of head records (files ++ last ∷ []) keeps files (unbegun_by unbegun h.row h.begun h.behind h.are h.whole h.over)
+
+module _ {D S : Type 0} (has : ℕ → List ℕ → Type 0) (seen : D → List ℕ) (is_clean : D → Bool) (plays : S → Entry → S → Type 0) (old new : S) (reader : RowReader D) (numbers : List ℕ) (older : List Filed) (p : PlaysRow has seen is_clean plays old new reader numbers older) where
   abbrev read : List D
   read = p.closed ++ device_of reader.last ∷ []
-
-  -- the files that were read are those of the row that is kept
-  same_row : AllByRecursion (λ d. IsTrue (is_clean d)) read → (batches : List (List Entry)) → records ≡ all_of batches → (row : List Filed) → AreLeft row (map seen read) → contents_of batches ≡ all_contents row → all_of p.batches ≡ records
-  same_row clean batches all row left bytes = ap all_of (p.are clean row batches (subst AreRecords all records_are) (all_left row (map seen read) left) bytes) ∙ sym all
 
   as_read : map seen read ≡ map seen p.closed ++ seen (device_of reader.last) ∷ []
   as_read = map-append seen p.closed (device_of reader.last ∷ [])
 
-  kept_by : AllByRecursion (λ d. IsTrue (is_clean d)) read → (batches : List (List Entry)) → records ≡ all_of batches → (row : List Filed) → contents_of batches ≡ all_contents row
-      → (begun behind : List (List ℕ)) → AreLeft row begun → map seen read ≡ begun ++ behind → IsRowEnd behind → all_of p.batches ≡ records
-  kept_by clean batches all row bytes begun [] left whole over = same_row clean batches all row (subst (AreLeft row) (sym (whole ∙ append-nil begun)) left) bytes
-  kept_by clean batches all row bytes begun (file ∷ []) left whole over =
-      let ends = same_from_push (map seen p.closed) begun (seen (device_of reader.last)) file (sym as_read ∙ whole) in
-      absurd (p.begun (each_split (λ d. IsTrue (is_clean d)) p.closed (device_of reader.last) clean).1 (subst IsUnbegun (sym ends.1) over))
-  kept_by clean batches all row bytes begun (file ∷ other ∷ more) left whole over = absurd over
+  module _ (clean : AllByRecursion (λ d. IsTrue (is_clean d)) read) (head : Settings) (records : List Entry) (are : AreRecords records) (k : KeptRow head records (map seen read)) where
+    sure : IsTrue (is_clean (device_of reader.last))
+    sure = (each_split (λ d. IsTrue (is_clean d)) p.closed (device_of reader.last) clean).1
 
-  -- the newest file has not begun
-  module _ (file : D) (unbegun : IsUnbegun (seen file)) where
-    kept_before : AllByRecursion (λ d. IsTrue (is_clean d)) read → (batches : List (List Entry)) → records ≡ all_of batches → (row : List Filed) → contents_of batches ≡ all_contents row
-        → (begun behind : List (List ℕ)) → AreLeft row begun → map seen read ++ seen file ∷ [] ≡ begun ++ behind → IsRowEnd behind → all_of p.batches ≡ records
-    kept_before clean batches all row bytes begun [] left whole over =
-        absurd (newest_begun row (map seen read) (seen file) (subst (AreLeft row) (sym (whole ∙ append-nil begun)) left) unbegun)
-    kept_before clean batches all row bytes begun (other ∷ []) left whole over =
-        let ends = same_from_push (map seen read) begun (seen file) other whole in
-        same_row clean batches all row (subst (AreLeft row) (sym ends.0) left) bytes
-    kept_before clean batches all row bytes begun (other ∷ more ∷ others) left whole over = absurd over
+    all_played : all_of p.batches ≡ records
+    all_played = ap all_of (p.are clean k.row k.batches (subst AreRecords k.all are) (all_left k.row (map seen read) k.left) k.bytes) ∙ sym k.all
 
-module _ {D S : Type 0} (has : ℕ → List ℕ → Type 0) (seen : D → List ℕ) (is_clean : D → Bool) (plays : S → Entry → S → Type 0) (old new : S) (reader : RowReader D) (numbers : List ℕ) (older : List Filed) (p : PlaysRow has seen is_clean plays old new reader numbers older) where
-  pub kept_played : ArePlayed seen is_clean (files_of p.closed (device_of reader.last) None) (all_of p.batches)
+    read_as : IsReadAs seen reader head records
+    read_as =
+        let file = seen (device_of reader.last) in
+        let parts = filed_split k.row (map seen p.closed) file (all_left k.row (map seen p.closed ++ file ∷ []) (subst (AreLeft k.row) as_read k.left)) in
+        let known = p.knows sure parts.1.head parts.1.contents parts.4 in
+        let both = one_file_one_segment file (head_of reader.last) parts.1.head parts.1.contents parts.1.contents known.stands parts.4 in
+        let own : parts.1 ≡ filed reader.last parts.1.contents = λ i. record { head = sym both.0 i; contents = parts.1.contents } in
+        let row : k.row ≡ parts.0 ++ filed reader.last parts.1.contents ∷ [] = parts.2 ∙ ap (λ (o : Filed). parts.0 ++ o ∷ []) own in
+        record {
+          older = parts.0;
+          contents = parts.1.contents;
+          batches = k.batches;
+          read = record { knows = known; row = subst IsRow row k.is_row; same_settings = subst (HaveSettings (settings_of head)) row k.same_settings };
+          bytes = k.bytes ∙ ap all_contents row;
+          all = k.all;
+        }
+
+  pub kept_played : ReadsWhatIsKept seen is_clean (files_of p.closed (device_of reader.last) None) reader (all_of p.batches)
   kept_played clean head records are keeps =
-      let h = keeps.hold in kept_by has seen is_clean plays old new reader numbers older p head records are clean keeps.batches keeps.all h.row h.all h.begun h.behind h.are h.whole h.over
+      let fresh = p.begun (each_split (λ d. IsTrue (is_clean d)) p.closed (device_of reader.last) clean).1 in
+      let all = all_begun head records (map seen p.closed) (seen (device_of reader.last)) fresh (subst (λ (fs : List (List ℕ)). KeepRow head records fs) as_read keeps) in
+      let k = subst (λ (fs : List (List ℕ)). KeptRow head records fs) (sym as_read) all in
+      (all_played clean head records are k, read_as clean head records are k)
 
-  pub kept_played_before : (file : D) → (IsTrue (is_clean file) → IsUnbegun (seen file)) → ArePlayed seen is_clean (files_of p.closed (device_of reader.last) (Some file)) (all_of p.batches)
+  pub kept_played_before : (file : D) → (IsTrue (is_clean file) → IsUnbegun (seen file)) → ReadsWhatIsKept seen is_clean (files_of p.closed (device_of reader.last) (Some file)) reader (all_of p.batches)
   kept_played_before file unbegun clean head records are keeps =
-      let h = keeps.hold in
-      let sure = each_split (λ d. IsTrue (is_clean d)) (p.closed ++ device_of reader.last ∷ []) file clean in
-      kept_before has seen is_clean plays old new reader numbers older p head records are file (unbegun sure.1) sure.0 keeps.batches keeps.all h.row h.all h.begun h.behind h.are (sym (map-append seen (p.closed ++ device_of reader.last ∷ []) (file ∷ [])) ∙ h.whole) h.over
+      let split = each_split (λ d. IsTrue (is_clean d)) read file clean in
+      let k = others_begun head records (map seen read) (seen file) (unbegun split.1) (subst (λ (fs : List (List ℕ)). KeepRow head records fs) (map-append seen read (file ∷ [])) keeps) in
+      (all_played split.0 head records are k, read_as split.0 head records are k)
+
+-- ---- the opening
+
+-- the files that were read are those of the numbers
+all_numbers : {D : Type 0} (has : ℕ → List ℕ → Type 0) (seen : D → List ℕ) (is_clean : D → Bool) (closed : List D) (last : D) (numbers begun behind : List ℕ) (unbegun : Option D) → numbers ≡ begun ++ behind → LeavesUnbegun has seen is_clean behind unbegun
+    → AreOfNumbers has begun (map seen (closed ++ last ∷ [])) → AreOfNumbers has numbers (map seen (files_of closed last unbegun))
+all_numbers has seen is_clean closed last numbers begun [] None whole rest files = subst (λ (ns : List ℕ). AreOfNumbers has ns (map seen (closed ++ last ∷ []))) (sym (whole ∙ append-nil begun)) files
+all_numbers has seen is_clean closed last numbers begun [] (Some file) whole rest files = absurd rest
+all_numbers has seen is_clean closed last numbers begun (n ∷ []) None whole rest files = absurd rest
+all_numbers has seen is_clean closed last numbers begun (n ∷ []) (Some file) whole rest files =
+    subst (λ (ns : List ℕ). AreOfNumbers has ns (map seen (closed ++ last ∷ [] ++ file ∷ []))) (sym whole)
+    (subst (λ (fs : List (List ℕ)). AreOfNumbers has (begun ++ n ∷ []) fs) (sym (map-append seen (closed ++ last ∷ []) (file ∷ []))) (push_number has begun (map seen (closed ++ last ∷ [])) n (seen file) files rest.0))
+all_numbers has seen is_clean closed last numbers begun (n ∷ m ∷ more) None whole rest files = absurd rest
+all_numbers has seen is_clean closed last numbers begun (n ∷ m ∷ more) (Some file) whole rest files = absurd rest
+
+pub opens_row : {D S : Type 0} {g : Ghosts D} (has : ℕ → List ℕ → Type 0) (seen : D → List ℕ) (may_leave : D → List ℕ → Type 0) (is_clean : D → Bool) (plays : S → Entry → S → Type 0) (old new : S) (reader : RowReader D) (numbers : List ℕ) (unbegun : Option D) (records : ℕ)
+    → ReadsRow has seen is_clean plays old new reader numbers unbegun records → (journal : RowJournal D g) (full : Option D) (count : ℕ) → count ≡ records
+    → (IsTrue (is_clean (disk_of journal)) → IfSome full (λ d. IsTrue (is_clean d)) → (head : Settings) (there : List Entry) → IsReadAs seen reader head there → (older : List Filed) × HasRow seen may_leave journal head older there [])
+    → OpensRow has seen may_leave is_clean plays old new numbers journal full count
+opens_row has seen may_leave is_clean plays old new reader numbers unbegun records r journal full count same gives = record {
+  read = files_of r.row.closed (device_of reader.last) unbegun;
+  files = all_numbers has seen is_clean r.row.closed (device_of reader.last) numbers r.begun r.behind unbegun r.whole r.rest r.row.files;
+  played = all_of r.row.batches;
+  plays_all = r.row.played;
+  count = same ∙ r.count;
+  kept = λ clean now sure head there are keeps. let k = r.kept clean head there are keeps in (k.0, gives now sure head there k.1);
+}

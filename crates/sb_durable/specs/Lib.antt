@@ -29,6 +29,7 @@ pub mod VolumeRecords
 pub mod RowJournal
 pub mod VolumeLives
 pub mod RowJournals
+pub mod RowOpenings
 pub mod BatchJournals
 pub mod JournaledRuns
 pub mod JournalFaults

@@ -1,14 +1,14 @@
 -- Promise: what is played of a row of segments.
 use Rattle.std.specs.Prelude.{◌≡◌, ℕ, Bool, List, [], ◌∷◌, ◌++◌, length, map, Option, Some, None, IsTrue}
 use Rattle.std.specs.List.{AllByRecursion}
-use Rattle.sb_durable.specs.Head.{IsUnbegun}
+use Rattle.sb_durable.specs.Head.{Head as SegmentHead, IsUnbegun, Stands}
 use Rattle.sb_durable.specs.Journal.{contents_of, all_of}
 use Rattle.sb_durable.specs.Records.{Entry}
 use Rattle.sb_durable.specs.Replays.{PlaysAll}
 use Rattle.sb_durable.specs.Restart.{AreRecords}
 use Rattle.sb_durable.specs.Row.{Filed, IsRow, AreFiled, all_contents}
-use Rattle.sb_durable.specs.RowJournal.{KeepRow}
-use Rattle.sb_durable.specs.RowReaders.{filed}
+use Rattle.sb_durable.specs.RowJournal.{KeepRow, settings_of}
+use Rattle.sb_durable.specs.RowReaders.{HasRead, filed}
 use Rattle.sb_durable.specs.Segment.{BindsAll, IsBehind, Knows, device_of, end_of, head_of}
 use Rattle.sb_durable.specs.declared.journal_header.Head.{Head}
 use Rattle.sb_durable.specs.declared.segment.reader.RowReader.{RowReader}
@@ -46,6 +46,7 @@ pub record PlaysRow {D S : Type 0} (has : ℕ → List ℕ → Type 0) (seen : D
   pub closed : List D
   pub files : AreOfNumbers has numbers (map seen (closed ++ device_of reader.last ∷ []))
   pub begun : IsTrue (is_clean (device_of reader.last)) → IsUnbegun (seen (device_of reader.last)) → ⊥
+  pub knows : IsTrue (is_clean (device_of reader.last)) → (head : SegmentHead) (contents : List (List ℕ)) → Stands head contents (seen (device_of reader.last)) → Knows seen reader.last contents
   pub are : AllByRecursion (λ d. IsTrue (is_clean d)) (closed ++ device_of reader.last ∷ []) → HaveAll seen (closed ++ device_of reader.last ∷ []) batches
 
 -- Behind the segments that were read there is no file of these numbers, or one alone, which has not begun.
@@ -59,10 +60,20 @@ abbrev pub files_of : {D : Type 0} → List D → D → Option D → List D
 files_of closed last None = closed ++ last ∷ []
 files_of closed last (Some file) = closed ++ last ∷ [] ++ file ∷ []
 
--- Where all disks' answers were true, and the files keep records, as a crash leaves them, the records that were played are these.
-abbrev pub ArePlayed : {D : Type 0} → (D → List ℕ) → (D → Bool) → List D → List Entry → Type 0
-ArePlayed seen is_clean files played =
-    AllByRecursion (λ d. IsTrue (is_clean d)) files → (head : Head) (records : List Entry) → AreRecords records → KeepRow head records (map seen files) → played ≡ records
+-- The reader has read a row that has these settings and these records.
+pub record IsReadAs {D : Type 0} (seen : D → List ℕ) (reader : RowReader D) (head : Head) (records : List Entry) : Type 0 where
+  pub older : List Filed
+  pub contents : List (List ℕ)
+  pub batches : List (List Entry)
+  pub read : HasRead seen reader (settings_of head) older contents
+  pub bytes : contents_of batches ≡ all_contents (older ++ filed reader.last contents ∷ [])
+  pub all : records ≡ all_of batches
+
+-- Where all disks' answers were true, and the files keep records, as a crash leaves them, the records that were played are these, and the reader has read their row.
+abbrev pub ReadsWhatIsKept : {D : Type 0} → (D → List ℕ) → (D → Bool) → List D → RowReader D → List Entry → Type 0
+ReadsWhatIsKept seen is_clean files reader played =
+    AllByRecursion (λ d. IsTrue (is_clean d)) files → (head : Head) (records : List Entry) → AreRecords records → KeepRow head records (map seen files)
+    → (played ≡ records) × IsReadAs seen reader head records
 
 -- All files of these numbers were read and played, so many records, but for a newest one that has not begun.
 pub record ReadsRow {D S : Type 0} (has : ℕ → List ℕ → Type 0) (seen : D → List ℕ) (is_clean : D → Bool) (plays : S → Entry → S → Type 0) (old new : S) (reader : RowReader D) (numbers : List ℕ) (unbegun : Option D) (records : ℕ) : Type 0 where
@@ -73,4 +84,4 @@ pub record ReadsRow {D S : Type 0} (has : ℕ → List ℕ → Type 0) (seen : D
   pub row : PlaysRow has seen is_clean plays old new reader begun older
   pub count : records ≡ length (all_of row.batches)
   pub rest : LeavesUnbegun has seen is_clean behind unbegun
-  pub kept : ArePlayed seen is_clean (files_of row.closed (device_of reader.last) unbegun) (all_of row.batches)
+  pub kept : ReadsWhatIsKept seen is_clean (files_of row.closed (device_of reader.last) unbegun) reader (all_of row.batches)

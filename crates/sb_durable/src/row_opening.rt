@@ -1,13 +1,14 @@
 //! The journal of a folder, opened: its files are read in the order of their numbers, and their records are played.
-ghost use Rattle.std.specs.Prelude.{◌≡◌, ◌++◌, ◌∷◌, [], List, ℕ, length, IfOk, IfSome, IsTrue};
+ghost use Rattle.std.specs.Prelude.{◌≡◌, ◌<◌, [], List, ℕ, length, IfOk, IfSome, IsTrue};
+ghost use Rattle.sb_durable.specs.Folders.{FollowOn};
 ghost use Rattle.sb_durable.specs.Head.{IsHead};
-ghost use Rattle.sb_durable.specs.Journal.{all_of, contents_of};
 ghost use Rattle.sb_durable.specs.Records.{Entry};
 ghost use Rattle.sb_durable.specs.Replays.{PlaysAll};
-ghost use Rattle.sb_durable.specs.Row.{Filed, all_contents};
-ghost use Rattle.sb_durable.specs.RowJournal.{settings_of};
+ghost use Rattle.sb_durable.specs.Row.{Filed};
 ghost use Rattle.sb_durable.specs.RowJournals.{HasRow, disk_of};
-ghost use Rattle.sb_durable.specs.RowReaders.{HasRead, filed, last_of};
+ghost use Rattle.sb_durable.specs.RowOpenings.{OpensRow};
+ghost use Rattle.sb_durable.specs.RowReaders.{last_of};
+ghost use Rattle.sb_durable.specs.RowReplays.{IsReadAs};
 ghost use Rattle.sb_durable.specs.Segment.{head_of};
 ghost use Rattle.sb_durable.specs.declared.journal_header.Head.{Head as TheHead};
 
@@ -92,8 +93,26 @@ pub(crate) fn open_row<
         numbers: &numbers,
         head,
     };
-    match read_row(rt, alloc, &files, wanted, player, progress) {
-        Ok(read) => finished(alloc, read, numbers[numbers.len() - 1]),
+    open_files(rt, alloc, &files, wanted, player, progress)
+}
+
+/// Opens the files of a row, and replays their records.
+fn open_files<T: Wait, D: Disk + Drop, F: SegmentFiles<D>, S: Plays, P: Progress>(
+    rt: &T,
+    alloc: Global,
+    files: &F,
+    wanted: WantedRow<'_>,
+    player: &mut S,
+    progress: &mut P,
+) -> Result<OpenedRow<D>, FolderError>
+    requires some { 0 < length wanted.numbers.now }
+    requires follow { FollowOn wanted.numbers.now }
+    ensures { IfOk result (λ opened. OpensRow (F.has files.now) D.Disk.seen D.Disk.may_leave D.Disk.is_clean S.plays player.old player.new
+        wanted.entry.numbers.now opened.journal opened.full opened.records) }
+{
+    let newest = wanted.numbers[wanted.numbers.len() - 1];
+    match read_row(rt, alloc, files, wanted, player, progress) {
+        Ok(read) => finished(alloc, read, newest),
         Err(error) => Err(error),
     }
 }
@@ -125,11 +144,8 @@ fn finished<D: Disk + Drop>(
     newest: u64,
 ) -> Result<OpenedRow<D>, FolderError>
     requires { IsHead (head_of (last_of read.reader)) }
-    ensures has { IfOk result (λ opened. IsTrue (D.Disk.is_clean (disk_of opened.journal)) → IfSome opened.full (λ full. IsTrue (D.Disk.is_clean full))
-        → (head : TheHead) (older : List Filed) (contents : List (List ℕ)) (batches : List (List Entry))
-        → HasRead D.Disk.seen read.reader (settings_of head) older contents → contents_of batches ≡ all_contents (older ++ filed (last_of read.reader) contents ∷ [])
-        → (closed : List Filed) × HasRow D.Disk.seen D.Disk.may_leave opened.journal head closed (all_of batches) []) }
-    ensures records { IfOk result (λ opened. opened.records ≡ read.records) }
+    ensures { IfOk result (λ opened. (opened.records ≡ read.records) × (IsTrue (D.Disk.is_clean (disk_of opened.journal)) → IfSome opened.full (λ full. IsTrue (D.Disk.is_clean full))
+        → (head : TheHead) (records : List Entry) → IsReadAs D.Disk.seen read.reader head records → (older : List Filed) × HasRow D.Disk.seen D.Disk.may_leave opened.journal head older records [])) }
 {
     let ReadRow {
         reader,

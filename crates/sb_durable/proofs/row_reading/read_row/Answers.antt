@@ -24,7 +24,8 @@ loop-k-init g c =
     let stays = c.play_segment.ensures.same in
     let fits = subst IsHead (sym stays.head) own.fits in
     let number = ap (λ (h : Head). h.number) stays.head ∙ own.number in
-    let first = plays_first has disk.seen disk.is_clean g.S.Plays.plays _ _ now fits (get_or numbers 0 0) number (subst (λ f. has (get_or numbers 0 0) f) (sym stays.file) own.has) (λ clean unbegun. own.begun (stays.clean clean) (subst IsUnbegun stays.file unbegun)) p.0 (binds_now disk.seen disk.may_leave disk.is_clean opened now stays p.0 p.3 own.bears)
+    let first = plays_first has disk.seen disk.is_clean g.S.Plays.plays _ _ now fits (get_or numbers 0 0) number (subst (λ f. has (get_or numbers 0 0) f) (sym stays.file) own.has) (λ clean unbegun. own.begun (stays.clean clean) (subst IsUnbegun stays.file unbegun))
+    (λ clean head contents stands. stays.knows contents (own.knows (stays.clean clean) head contents (subst (λ f. Stands head contents f) stays.file stands))) p.0 (binds_now disk.seen disk.may_leave disk.is_clean opened now stays p.0 p.3 own.bears)
     (are_now disk.seen disk.may_leave disk.is_clean opened now stays p.0 p.3 own.knows) (take 1 numbers) (take_more numbers 0 0 c.requires.some) p.1 in (
       [],
       first.0,
@@ -50,7 +51,8 @@ loop-k-preserved g c =
     let next = subst (λ (h : Head). IsNext own h) (sym stays.head) (went.next i.1.last i.1.end) in
     let number = next_number numbers i.4.0 c.loop-k.k _ _ i.4.1 c.loop-k-test.true c.requires.follow i.4.2 next.number in
     let file = subst (λ f. has (get_or numbers c.loop-k.k 0) f) (sym (stays.file ∙ went.same.0)) c.in_ok-file.ensures.has in
-    let more = plays_next has disk.seen disk.is_clean g.S.Plays.plays _ _ now fits (get_or numbers c.loop-k.k 0) number file (λ clean unbegun. went.begun (stays.clean clean) (subst IsUnbegun (stays.file ∙ went.same.0) unbegun)) p.0 (binds_now disk.seen disk.may_leave disk.is_clean opened now stays p.0 p.3 went.bears)
+    let more = plays_next has disk.seen disk.is_clean g.S.Plays.plays _ _ now fits (get_or numbers c.loop-k.k 0) number file (λ clean unbegun. went.begun (stays.clean clean) (subst IsUnbegun (stays.file ∙ went.same.0) unbegun))
+    (λ clean head contents stands. stays.knows contents (went.knows (stays.clean clean) head contents (subst (λ f. Stands head contents f) (stays.file ∙ went.same.0) stands)).1) p.0 (binds_now disk.seen disk.may_leave disk.is_clean opened now stays p.0 p.3 went.bears)
     (are_now disk.seen disk.may_leave disk.is_clean opened now stays p.0 p.3 (λ clean head contents stands. (went.knows clean head contents (subst (λ f. Stands head contents f) went.same.0 stands)).1)) _ c.loop-k.reader _ i.0 i.1 next
     (take (c.loop-k.k + 1) numbers) (take_more numbers c.loop-k.k 0 c.loop-k-test.true) p.1 in (
       i.0 ++ own ∷ [],
