@@ -25,6 +25,9 @@ pub mod Row
 pub mod RowFaults
 pub mod RowReaders
 pub mod RowReplays
+pub mod KeptSteps
+pub mod RecordedVolumes
+pub mod RowRuns
 pub mod VolumeRecords
 pub mod RowJournal
 pub mod VolumeLives
