@@ -3,12 +3,10 @@ use Rattle.std.proofs.Common.{◌≡◌, ◌⊎◌, ℕ, ◌+◌, ◌≤◌, ◌
 use Rattle.std.specs.Prelude.{Contains}
 use Rattle.std.proofs.lemmas.List.{append-nil, get_or_default, length-map, take-map, take-take}
 use Rattle.std.proofs.lemmas.Bool.{cases_lt, true≢false}
-use Rattle.sqlite_disk.specs.declared.Disk.{Ghosts}
+use Rattle.sb_durable.specs.BatchJournals.{Base}
+use Rattle.sb_durable.specs.declared.batch_journal.BatchJournal.{Ghosts}
 use Rattle.sb_host.specs.Lending.{Lends}
-use Rattle.sb_durable.specs.Log.{IsSpent}
 use Rattle.sb_durable.specs.Records.{Entry as Record}
-use Rattle.sb_durable.specs.Journal.{Has, Keeps, disk_of}
-use Rattle.sb_durable.specs.declared.journal_header.Head.{Head}
 use Rattle.sb_tenant.specs.declared.reply.Entry.{Entry}
 use Rattle.sb_tenant.specs.Tenant.{Tenant, IsLegal}
 use Rattle.sb_tenant.specs.Trail.{is_no_memory}
@@ -112,109 +110,109 @@ whole_reach NoMemory whole staged is = absurd staged
 whole_reach OfPart whole staged is = absurd (cc (staged, is))
 whole_reach End whole staged is = refl
 
--- the file has the records, or those that waited, too
-kept_by : (head : Head) (records waiting : List Record) (file : List ℕ) → Keeps head records file ⊎ Keeps head (records ++ waiting) file → KeepsFront head records (waiting ++ []) file
-kept_by head records waiting file (inl before) = record { front = []; back = waiting; all = append-nil waiting; keeps = subst (λ (r : List Record). Keeps head r file) (sym (append-nil records)) before }
-kept_by head records waiting file (inr after) = record { front = waiting; back = []; all = refl; keeps = after }
+-- the files have the records, or those that waited, too
+kept_by : {J V : Type 0} (kind : Ghosts J V) (base : Base) (records waiting : List Record) (files : List (List ℕ)) → kind.keeps base records files ⊎ kind.keeps base (records ++ waiting) files → KeepsFront kind base records (waiting ++ []) files
+kept_by kind base records waiting files (inl before) = record { front = []; back = waiting; all = append-nil waiting; keeps = subst (λ (r : List Record). kind.keeps base r files) (sym (append-nil records)) before }
+kept_by kind base records waiting files (inr after) = record { front = waiting; back = []; all = refl; keeps = after }
 
-module _ {D : Type 0} {g : Ghosts D} (seen : D → List ℕ) (may_leave : D → List ℕ → Type 0) where
+module _ {J V : Type 0} (kind : Ghosts J V) where
   -- nothing is recorded yet
-  pub takes_none : (G : Type 0) (old new : JournalWriter D g) (head : Head) (records waiting : List Record) → new.recorded.items ≡ old.recorded.items → Has seen may_leave new.journal head records waiting
-      → ((file : List ℕ) → may_leave (disk_of new.journal) file → Keeps head records file) → Takes seen may_leave G old new head records waiting []
-  takes_none G old new head records waiting same has kept = record {
+  pub takes_none : (G : Type 0) (old new : JournalWriter J) (base : Base) (records waiting : List Record) → new.recorded.items ≡ old.recorded.items → kind.has new.journal base records waiting
+      → ((files : List (List ℕ)) → kind.leaves new.journal base files → kind.keeps base records files) → Takes kind G old new base records waiting []
+  takes_none G old new base records waiting same has kept = record {
     counts = same;
-    has = inr (record { front = []; back = waiting; all = append-nil waiting; has = subst (λ (r : List Record). Has seen may_leave new.journal head r waiting) (sym (append-nil records)) has });
-    crash = λ file left. record { front = []; back = waiting; all = append-nil waiting; keeps = subst (λ (r : List Record). Keeps head r file) (sym (append-nil records)) (kept file left) };
+    has = inr (record { front = []; back = waiting; all = append-nil waiting; has = subst (λ (r : List Record). kind.has new.journal base r waiting) (sym (append-nil records)) has });
+    crash = λ files left. record { front = []; back = waiting; all = append-nil waiting; keeps = subst (λ (r : List Record). kind.keeps base r files) (sym (append-nil records)) (kept files left) };
   }
 
   -- what is known of the journal then
-  pub front_of : (old new : JournalWriter D g) (head : Head) (records waiting : List Record) (ps : List Part) → Takes seen may_leave ⊥ old new head records waiting ps
-      → HasFront seen may_leave new.journal head records (waiting ++ records_of ps)
-  front_of old new head records waiting ps takes = by takes.has
+  pub front_of : (old new : JournalWriter J) (base : Base) (records waiting : List Record) (ps : List Part) → Takes kind ⊥ old new base records waiting ps
+      → HasFront kind new.journal base records (waiting ++ records_of ps)
+  front_of old new base records waiting ps takes = by takes.has
     where
-      by : ⊥ ⊎ HasFront seen may_leave new.journal head records (waiting ++ records_of ps) → HasFront seen may_leave new.journal head records (waiting ++ records_of ps)
+      by : ⊥ ⊎ HasFront kind new.journal base records (waiting ++ records_of ps) → HasFront kind new.journal base records (waiting ++ records_of ps)
       by (inl none) = absurd none
       by (inr has) = has
 
   -- one after the other
-  pub takes_more : (G : Type 0) (old mid new : JournalWriter D g) (head : Head) (records waiting : List Record) (ps qs : List Part) (first : Takes seen may_leave ⊥ old mid head records waiting ps)
-      (has : HasFront seen may_leave mid.journal head records (waiting ++ records_of ps)) → Takes seen may_leave G mid new head (records ++ has.front) has.back qs → Takes seen may_leave G old new head records waiting (ps ++ qs)
-  takes_more G old mid new head records waiting ps qs first has then = record {
+  pub takes_more : (G : Type 0) (old mid new : JournalWriter J) (base : Base) (records waiting : List Record) (ps qs : List Part) (first : Takes kind ⊥ old mid base records waiting ps)
+      (has : HasFront kind mid.journal base records (waiting ++ records_of ps)) → Takes kind G mid new base (records ++ has.front) has.back qs → Takes kind G old new base records waiting (ps ++ qs)
+  takes_more G old mid new base records waiting ps qs first has then = record {
     counts = counts-append old.recorded.items mid.recorded.items new.recorded.items ps qs first.counts then.counts;
     has = by then.has;
-    crash = λ file left. let k = then.crash file left in record {
+    crash = λ files left. let k = then.crash files left in record {
       front = has.front ++ k.front;
       back = k.back;
       all = ap (λ (l : List Record). waiting ++ l) (records-append ps qs) ∙ joined waiting (records_of ps) (records_of qs) has.front has.back k.front k.back has.all k.all;
-      keeps = subst (λ (r : List Record). Keeps head r file) (append_assoc records has.front k.front) k.keeps;
+      keeps = subst (λ (r : List Record). kind.keeps base r files) (append_assoc records has.front k.front) k.keeps;
     };
   }
     where
-      by : G ⊎ HasFront seen may_leave new.journal head (records ++ has.front) (has.back ++ records_of qs) → G ⊎ HasFront seen may_leave new.journal head records (waiting ++ records_of (ps ++ qs))
+      by : G ⊎ HasFront kind new.journal base (records ++ has.front) (has.back ++ records_of qs) → G ⊎ HasFront kind new.journal base records (waiting ++ records_of (ps ++ qs))
       by (inl given_up) = inl given_up
       by (inr h) = inr (record {
         front = has.front ++ h.front;
         back = h.back;
         all = ap (λ (l : List Record). waiting ++ l) (records-append ps qs) ∙ joined waiting (records_of ps) (records_of qs) has.front has.back h.front h.back has.all h.all;
-        has = subst (λ (r : List Record). Has seen may_leave new.journal head r h.back) (append_assoc records has.front h.front) h.has;
+        has = subst (λ (r : List Record). kind.has new.journal base r h.back) (append_assoc records has.front h.front) h.has;
       })
 
-  pub takes_last : (G : Type 0) (old mid new : JournalWriter D g) (head : Head) (records waiting : List Record) (ps : List Part) (first : Takes seen may_leave ⊥ old mid head records waiting ps)
-      (has : HasFront seen may_leave mid.journal head records (waiting ++ records_of ps)) → Takes seen may_leave G mid new head (records ++ has.front) has.back [] → Takes seen may_leave G old new head records waiting ps
-  takes_last G old mid new head records waiting ps first has then =
-      subst (λ (l : List Part). Takes seen may_leave G old new head records waiting l) (append-nil ps) (takes_more G old mid new head records waiting ps [] first has then)
+  pub takes_last : (G : Type 0) (old mid new : JournalWriter J) (base : Base) (records waiting : List Record) (ps : List Part) (first : Takes kind ⊥ old mid base records waiting ps)
+      (has : HasFront kind mid.journal base records (waiting ++ records_of ps)) → Takes kind G mid new base (records ++ has.front) has.back [] → Takes kind G old new base records waiting ps
+  takes_last G old mid new base records waiting ps first has then =
+      subst (λ (l : List Part). Takes kind G old new base records waiting l) (append-nil ps) (takes_more G old mid new base records waiting ps [] first has then)
 
   -- a part of a trail is staged
-  pub takes_part : (G : Type 0) (old new : JournalWriter D g) (head : Head) (records waiting : List Record) (t n : ℕ) (reach : RecordedReach) (start : RecordingStart) (own : Tenant) (notes : List PendingEntry)
+  pub takes_part : (G : Type 0) (old new : JournalWriter J) (base : Base) (records waiting : List Record) (t n : ℕ) (reach : RecordedReach) (start : RecordingStart) (own : Tenant) (notes : List PendingEntry)
       → slice_get old.recorded.items t ≡ Some reach → own.id ≡ t → GoesOn reach start.reach start.is_renewed → start.reach.volume ≡ own.volume → IsLegal own → start.reach.entries + n ≤ length own.trail
-      → IsFront (drop start.reach.entries own.trail) notes → n ≤ length notes → length (take n notes) ≡ n → Stages seen may_leave old new t start (take n notes)
-      → Has seen may_leave old.journal head records waiting → ((head : Head) (records waiting : List Record) → Has seen may_leave new.journal head records waiting → (file : List ℕ) → may_leave (disk_of new.journal) file → Keeps head records file)
-      → Takes seen may_leave G old new head records waiting (record { tenant = t; own = own; is_renewed = start.is_renewed; from = start.reach.entries; count = n } ∷ [])
-  takes_part G old new head records waiting t n reach start own notes there lent goes volume legal within front few long stages has kept =
+      → IsFront (drop start.reach.entries own.trail) notes → n ≤ length notes → length (take n notes) ≡ n → Stages kind old new t start (take n notes)
+      → kind.has old.journal base records waiting → ((base : Base) (records waiting : List Record) → kind.has new.journal base records waiting → (files : List (List ℕ)) → kind.leaves new.journal base files → kind.keeps base records files)
+      → Takes kind G old new base records waiting (record { tenant = t; own = own; is_renewed = start.is_renewed; from = start.reach.entries; count = n } ∷ [])
+  takes_part G old new base records waiting t n reach start own notes there lent goes volume legal within front few long stages has kept =
       let from : ℕ = start.reach.entries in
       let renewals : List Record = renewals_of t start.is_renewed in
       let part : Part = record { tenant = t; own = own; is_renewed = start.is_renewed; from = from; count = n } in
       let all : waiting ++ (renewals ++ map (record_of_note t) (take n notes)) ≡ waiting ++ records_of (part ∷ []) =
       ap (λ (l : List Record). waiting ++ l) (ap (λ (l : List Record). renewals ++ l) (front_is t n (drop from own.trail) notes front few) ∙ sym (append-nil (part_records part))) in
-      let now = subst (λ (w : List Record). Has seen may_leave new.journal head records w) all (stages.has head records waiting has) in
+      let now = subst (λ (w : List Record). kind.has new.journal base records w) all (stages.has base records waiting has) in
       let counts : new.recorded.items ≡ slice_set old.recorded.items t (reach_of part (from + n)) = stages.counts ∙ (λ i. slice_set old.recorded.items t (record { volume = volume i; entries = from + long i })) in
       let goes_on : GoesOn reach (reach_of part from) start.is_renewed = subst (λ (at : RecordedReach). GoesOn reach at start.is_renewed) (λ i. record { volume = volume i; entries = from }) goes in
       record {
         counts = ((reach, there, (lent, goes_on, within, legal)), counts);
-        has = inr (record { front = []; back = waiting ++ records_of (part ∷ []); all = refl; has = subst (λ (r : List Record). Has seen may_leave new.journal head r (waiting ++ records_of (part ∷ []))) (sym (append-nil records)) now });
-        crash = λ file left. record { front = []; back = waiting ++ records_of (part ∷ []); all = refl; keeps = subst (λ (r : List Record). Keeps head r file) (sym (append-nil records)) (kept head records (waiting ++ records_of (part ∷ [])) now file left) };
+        has = inr (record { front = []; back = waiting ++ records_of (part ∷ []); all = refl; has = subst (λ (r : List Record). kind.has new.journal base r (waiting ++ records_of (part ∷ []))) (sym (append-nil records)) now });
+        crash = λ files left. record { front = []; back = waiting ++ records_of (part ∷ []); all = refl; keeps = subst (λ (r : List Record). kind.keeps base r files) (sym (append-nil records)) (kept base records (waiting ++ records_of (part ∷ [])) now files left) };
       }
 
   -- what waited is on the disk
-  pub takes_all : (old new : JournalWriter D g) (head : Head) (records waiting : List Record) → new.recorded.items ≡ old.recorded.items → Has seen may_leave new.journal head (records ++ waiting) []
-      → ((file : List ℕ) → may_leave (disk_of new.journal) file → Keeps head records file ⊎ Keeps head (records ++ waiting) file) → Takes seen may_leave ⊥ old new head records waiting []
-  takes_all old new head records waiting same has left = record {
+  pub takes_all : (old new : JournalWriter J) (base : Base) (records waiting : List Record) → new.recorded.items ≡ old.recorded.items → kind.has new.journal base (records ++ waiting) []
+      → ((files : List (List ℕ)) → kind.leaves new.journal base files → kind.keeps base records files ⊎ kind.keeps base (records ++ waiting) files) → Takes kind ⊥ old new base records waiting []
+  takes_all old new base records waiting same has left = record {
     counts = same;
     has = inr (record { front = waiting; back = []; all = refl; has = has });
-    crash = λ file may. kept_by head records waiting file (left file may);
+    crash = λ files may. kept_by kind base records waiting files (left files may);
   }
 
   -- or it isn't, and the journal may be spent
-  pub takes_some : (old new : JournalWriter D g) (head : Head) (records waiting : List Record) → new.recorded.items ≡ old.recorded.items
-      → ((head : Head) (records waiting : List Record) → Has seen may_leave old.journal head records waiting → Has seen may_leave new.journal head records waiting) ⊎ IsSpent new.journal.log
-      → Has seen may_leave old.journal head records waiting
-      → ((file : List ℕ) → may_leave (disk_of new.journal) file → Keeps head records file ⊎ Keeps head (records ++ waiting) file) → Takes seen may_leave (IsSpent new.journal.log) old new head records waiting []
-  takes_some old new head records waiting same stays has left = record { counts = same; has = by stays; crash = λ file may. kept_by head records waiting file (left file may) }
+  pub takes_some : (old new : JournalWriter J) (base : Base) (records waiting : List Record) → new.recorded.items ≡ old.recorded.items
+      → ((base : Base) (records waiting : List Record) → kind.has old.journal base records waiting → kind.has new.journal base records waiting) ⊎ kind.is_over new.journal
+      → kind.has old.journal base records waiting
+      → ((files : List (List ℕ)) → kind.leaves new.journal base files → kind.keeps base records files ⊎ kind.keeps base (records ++ waiting) files) → Takes kind (kind.is_over new.journal) old new base records waiting []
+  takes_some old new base records waiting same stays has left = record { counts = same; has = by stays; crash = λ files may. kept_by kind base records waiting files (left files may) }
     where
-      by : ((head : Head) (records waiting : List Record) → Has seen may_leave old.journal head records waiting → Has seen may_leave new.journal head records waiting) ⊎ IsSpent new.journal.log
-          → IsSpent new.journal.log ⊎ HasFront seen may_leave new.journal head records (waiting ++ [])
-      by (inl same) = inr (record { front = []; back = waiting; all = append-nil waiting; has = subst (λ (r : List Record). Has seen may_leave new.journal head r waiting) (sym (append-nil records)) (same head records waiting has) })
+      by : ((base : Base) (records waiting : List Record) → kind.has old.journal base records waiting → kind.has new.journal base records waiting) ⊎ kind.is_over new.journal
+          → kind.is_over new.journal ⊎ HasFront kind new.journal base records (waiting ++ [])
+      by (inl same) = inr (record { front = []; back = waiting; all = append-nil waiting; has = subst (λ (r : List Record). kind.has new.journal base r waiting) (sym (append-nil records)) (same base records waiting has) })
       by (inr spent) = inl spent
 
   -- what was noted is staged
-  abbrev pub Kept : JournalWriter D g → Type 0
-  Kept new = (head : Head) (records waiting : List Record) → Has seen may_leave new.journal head records waiting → (file : List ℕ) → may_leave (disk_of new.journal) file → Keeps head records file
+  abbrev pub Kept : JournalWriter J → Type 0
+  Kept new = (base : Base) (records waiting : List Record) → kind.has new.journal base records waiting → (files : List (List ℕ)) → kind.leaves new.journal base files → kind.keeps base records files
 
   -- a loop over notes has come so far
-  pub staged_front : (old new : JournalWriter D g) (t : ℕ) (start : RecordingStart) (notes : List PendingEntry) (i : ℕ) (all : Bool) (reach : RecordedReach) → i ≤ length notes → (IsTrue all → i ≡ length notes)
+  pub staged_front : (old new : JournalWriter J) (t : ℕ) (start : RecordingStart) (notes : List PendingEntry) (i : ℕ) (all : Bool) (reach : RecordedReach) → i ≤ length notes → (IsTrue all → i ≡ length notes)
       → reach ≡ record { volume = start.reach.volume; entries = start.reach.entries + i } → new.recorded.items ≡ slice_set old.recorded.items t reach
-      → ((head : Head) (records waiting : List Record) → Has seen may_leave old.journal head records waiting → Has seen may_leave new.journal head records (waiting ++ (renewals_of t start.is_renewed ++ map (record_of_note t) (take i notes))))
-      → StagesSome seen may_leave old new t start notes all
+      → ((base : Base) (records waiting : List Record) → kind.has old.journal base records waiting → kind.has new.journal base records (waiting ++ (renewals_of t start.is_renewed ++ map (record_of_note t) (take i notes))))
+      → StagesSome kind old new t start notes all
   staged_front old new t start notes i all reach few whole is counts has =
       inr (record {
         count = i;
@@ -226,42 +224,42 @@ module _ {D : Type 0} {g : Ghosts D} (seen : D → List ℕ) (may_leave : D → 
         };
       })
 
-  abbrev Taken : Type 0 → JournalWriter D g → JournalWriter D g → ℕ → Type 0 → Type 0
+  abbrev Taken : Type 0 → JournalWriter J → JournalWriter J → ℕ → Type 0 → Type 0
   Taken G old new t whole =
-      (head : Head) (records waiting : List Record) → Has seen may_leave old.journal head records waiting → (parts : List Part) × Takes seen may_leave G old new head records waiting parts × AreOf t parts × (whole → Reaches parts t)
+      (base : Base) (records waiting : List Record) → kind.has old.journal base records waiting → (parts : List Part) × Takes kind G old new base records waiting parts × AreOf t parts × (whole → Reaches parts t)
 
-  taken_front : (G : Type 0) (old new : JournalWriter D g) (t : ℕ) (reach : RecordedReach) (start : RecordingStart) (own : Tenant) (notes : List PendingEntry) (all : Bool) (whole : Type 0) → slice_get old.recorded.items t ≡ Some reach → own.id ≡ t → GoesOn reach start.reach start.is_renewed → IsLegal own
-      → IsPlaceIn own start.reach → IsFront (drop start.reach.entries own.trail) notes → (whole → (length notes ≡ length (drop start.reach.entries own.trail)) × IsTrue all) → StagesFront seen may_leave old new t start notes all → Kept new → Taken G old new t whole
-  taken_front G old new t reach start own notes all whole there lent goes legal place front to_end staged kept head records waiting has =
+  taken_front : (G : Type 0) (old new : JournalWriter J) (t : ℕ) (reach : RecordedReach) (start : RecordingStart) (own : Tenant) (notes : List PendingEntry) (all : Bool) (whole : Type 0) → slice_get old.recorded.items t ≡ Some reach → own.id ≡ t → GoesOn reach start.reach start.is_renewed → IsLegal own
+      → IsPlaceIn own start.reach → IsFront (drop start.reach.entries own.trail) notes → (whole → (length notes ≡ length (drop start.reach.entries own.trail)) × IsTrue all) → StagesFront kind old new t start notes all → Kept new → Taken G old new t whole
+  taken_front G old new t reach start own notes all whole there lent goes legal place front to_end staged kept base records waiting has =
       let from : ℕ = start.reach.entries in
       let part : Part = record { tenant = t; own = own; is_renewed = start.is_renewed; from = from; count = staged.count } in (
         part ∷ [],
-        takes_part G old new head records waiting t staged.count reach start own notes there lent goes place.0 legal (omega (arith, place.1, front.0, staged.few, length-drop from own.trail)) front staged.few (length-take-le staged.count notes staged.few) staged.stages has kept,
+        takes_part G old new base records waiting t staged.count reach start own notes there lent goes place.0 legal (omega (arith, place.1, front.0, staged.few, length-drop from own.trail)) front staged.few (length-take-le staged.count notes staged.few) staged.stages has kept,
         (refl, tt),
         λ w. inl (refl, omega (arith, place.1, (to_end w).0, staged.whole (to_end w).1, length-drop from own.trail)),
       )
 
-  taken_nothing : (G : Type 0) (old new : JournalWriter D g) (t : ℕ) (whole : Type 0) → StagesNothing seen may_leave old new → (whole → ⊥) → Kept new → Taken G old new t whole
-  taken_nothing G old new t whole nothing none kept head records waiting has =
-      let now = nothing.has head records waiting has in
-      ([], takes_none G old new head records waiting nothing.counts now (kept head records waiting now), tt, λ w. absurd (none w))
+  taken_nothing : (G : Type 0) (old new : JournalWriter J) (t : ℕ) (whole : Type 0) → StagesNothing kind old new → (whole → ⊥) → Kept new → Taken G old new t whole
+  taken_nothing G old new t whole nothing none kept base records waiting has =
+      let now = nothing.has base records waiting has in
+      ([], takes_none G old new base records waiting nothing.counts now (kept base records waiting now), tt, λ w. absurd (none w))
 
-  taken_none : (G : Type 0) (old new : JournalWriter D g) (t : ℕ) (whole : Type 0) → new ≡ old → (whole → ⊥) → Kept new → Taken G old new t whole
+  taken_none : (G : Type 0) (old new : JournalWriter J) (t : ℕ) (whole : Type 0) → new ≡ old → (whole → ⊥) → Kept new → Taken G old new t whole
   taken_none G old new t whole same none kept =
       taken_nothing G old new t whole
       (record {
-        counts = ap (λ (b : JournalWriter D g). b.recorded.items) same;
-        has = λ head records waiting has. subst (λ (b : JournalWriter D g). Has seen may_leave b.journal head records waiting) (sym same) has;
+        counts = ap (λ (b : JournalWriter J). b.recorded.items) same;
+        has = λ base records waiting has. subst (λ (b : JournalWriter J). kind.has b.journal base records waiting) (sym same) has;
       }) none kept
 
-  taken_some : (G : Type 0) (old new : JournalWriter D g) (t : ℕ) (reach : RecordedReach) (start : RecordingStart) (own : Tenant) (notes : List PendingEntry) (all : Bool) (whole : Type 0) → slice_get old.recorded.items t ≡ Some reach → own.id ≡ t → GoesOn reach start.reach start.is_renewed → IsLegal own
-      → IsPlaceIn own start.reach → IsFront (drop start.reach.entries own.trail) notes → (whole → (length notes ≡ length (drop start.reach.entries own.trail)) × IsTrue all) → StagesSome seen may_leave old new t start notes all → Kept new → Taken G old new t whole
+  taken_some : (G : Type 0) (old new : JournalWriter J) (t : ℕ) (reach : RecordedReach) (start : RecordingStart) (own : Tenant) (notes : List PendingEntry) (all : Bool) (whole : Type 0) → slice_get old.recorded.items t ≡ Some reach → own.id ≡ t → GoesOn reach start.reach start.is_renewed → IsLegal own
+      → IsPlaceIn own start.reach → IsFront (drop start.reach.entries own.trail) notes → (whole → (length notes ≡ length (drop start.reach.entries own.trail)) × IsTrue all) → StagesSome kind old new t start notes all → Kept new → Taken G old new t whole
   taken_some G old new t reach start own notes all whole there lent goes legal place front to_end (inl nothing) kept = taken_nothing G old new t whole nothing.0 (λ w. true≢false (sym (to_end w).1 ∙ nothing.1)) kept
   taken_some G old new t reach start own notes all whole there lent goes legal place front to_end (inr staged) kept = taken_front G old new t reach start own notes all whole there lent goes legal place front to_end staged kept
 
   -- by how far the notes go, and whether all of them were taken
-  pub taken : (G : Type 0) (old new : JournalWriter D g) (t : ℕ) (reach : RecordedReach) (start : RecordingStart) (own : Tenant) (notes : List PendingEntry) (read : ReadReach) (all : Bool) (whole : Type 0) → slice_get old.recorded.items t ≡ Some reach → own.id ≡ t → GoesOn reach start.reach start.is_renewed → IsLegal own
-      → NotesBehind start.reach own notes read → (whole → (read ≡ End) × IsTrue all) → StagesBy seen may_leave old new t start notes all read → Kept new → Taken G old new t whole
+  pub taken : (G : Type 0) (old new : JournalWriter J) (t : ℕ) (reach : RecordedReach) (start : RecordingStart) (own : Tenant) (notes : List PendingEntry) (read : ReadReach) (all : Bool) (whole : Type 0) → slice_get old.recorded.items t ≡ Some reach → own.id ≡ t → GoesOn reach start.reach start.is_renewed → IsLegal own
+      → NotesBehind start.reach own notes read → (whole → (read ≡ End) × IsTrue all) → StagesBy kind old new t start notes all read → Kept new → Taken G old new t whole
   taken G old new t reach start own notes Nowhere all whole there lent goes legal behind to_end staged kept = taken_none G old new t whole staged (λ w. absurd (cc ((to_end w).0))) kept
   taken G old new t reach start own notes NoMemory all whole there lent goes legal behind to_end staged kept = taken_none G old new t whole staged (λ w. absurd (cc ((to_end w).0))) kept
   taken G old new t reach start own notes OfPart all whole there lent goes legal behind to_end staged kept =
@@ -270,8 +268,8 @@ module _ {D : Type 0} {g : Ghosts D} (seen : D → List ℕ) (may_leave : D → 
       taken_some G old new t reach start own notes all whole there lent goes legal behind.0 behind.1 (λ w. (behind.2, (to_end w).1)) staged kept
 
   -- a reading, and what was staged of it
-  pub taken_ok : (old new : JournalWriter D g) (t : ℕ) (blank notes : EntryReader) (there : Bool) (r : Result Bool JournalError) → slice_get old.recorded.items t ≡ Some blank.start.reach → blank.reach ≡ Nowhere
-      → (IsTrue there → Lends (Reads blank) t notes) → (IsFalse there → notes ≡ blank) → IfOk r (λ w. IsStaged notes.reach w) → StagesNoted seen may_leave old new t notes (is_ok r) → Kept new
+  pub taken_ok : (old new : JournalWriter J) (t : ℕ) (blank notes : EntryReader) (there : Bool) (r : Result Bool JournalError) → slice_get old.recorded.items t ≡ Some blank.start.reach → blank.reach ≡ Nowhere
+      → (IsTrue there → Lends (Reads blank) t notes) → (IsFalse there → notes ≡ blank) → IfOk r (λ w. IsStaged notes.reach w) → StagesNoted kind old new t notes (is_ok r) → Kept new
       → IfOk r (λ w. Taken ⊥ old new t (IsTrue w))
   taken_ok old new t blank notes there (Err e) has nowhere read none whole staged kept = tt
   taken_ok old new t blank notes true (Ok w) has nowhere read none whole staged kept =
@@ -279,26 +277,26 @@ module _ {D : Type 0} {g : Ghosts D} (seen : D → List ℕ) (may_leave : D → 
       taken ⊥ old new t blank.start.reach notes.start own.0 notes.list.items notes.reach true (IsTrue w) has own.1 own.2.1 own.2.0 own.2.2 (λ is. (whole_reach notes.reach w whole is, refl)) staged kept
   taken_ok old new t blank notes false (Ok w) has nowhere read none whole staged kept =
       let is : notes.reach ≡ Nowhere = ap (λ (n : EntryReader). n.reach) (none refl) ∙ nowhere in
-      taken_none ⊥ old new t (IsTrue w) (subst (λ (r : ReadReach). StagesBy seen may_leave old new t notes.start notes.list.items true r) is staged) (λ _. subst (λ (r : ReadReach). IsStaged r w) is whole) kept
+      taken_none ⊥ old new t (IsTrue w) (subst (λ (r : ReadReach). StagesBy kind old new t notes.start notes.list.items true r) is staged) (λ _. subst (λ (r : ReadReach). IsStaged r w) is whole) kept
 
-  pub taken_err : (G : Type 0) (old new : JournalWriter D g) (t : ℕ) (blank notes : EntryReader) (there : Bool) (r : Result Bool JournalError) → slice_get old.recorded.items t ≡ Some blank.start.reach → blank.reach ≡ Nowhere
-      → (IsTrue there → Lends (Reads blank) t notes) → (IsFalse there → notes ≡ blank) → StagesNoted seen may_leave old new t notes (is_ok r) → Kept new → OnErr r (Taken G old new t ⊥)
+  pub taken_err : (G : Type 0) (old new : JournalWriter J) (t : ℕ) (blank notes : EntryReader) (there : Bool) (r : Result Bool JournalError) → slice_get old.recorded.items t ≡ Some blank.start.reach → blank.reach ≡ Nowhere
+      → (IsTrue there → Lends (Reads blank) t notes) → (IsFalse there → notes ≡ blank) → StagesNoted kind old new t notes (is_ok r) → Kept new → OnErr r (Taken G old new t ⊥)
   taken_err G old new t blank notes there (Ok w) has nowhere read none staged kept = tt
   taken_err G old new t blank notes true (Err e) has nowhere read none staged kept =
       let own = read refl in
       taken G old new t blank.start.reach notes.start own.0 notes.list.items notes.reach false ⊥ has own.1 own.2.1 own.2.0 own.2.2 (λ is. absurd is) staged kept
   taken_err G old new t blank notes false (Err e) has nowhere read none staged kept =
       let is : notes.reach ≡ Nowhere = ap (λ (n : EntryReader). n.reach) (none refl) ∙ nowhere in
-      taken_none G old new t ⊥ (subst (λ (r : ReadReach). StagesBy seen may_leave old new t notes.start notes.list.items false r) is staged) (λ is. is) kept
+      taken_none G old new t ⊥ (subst (λ (r : ReadReach). StagesBy kind old new t notes.start notes.list.items false r) is staged) (λ is. is) kept
 
   -- one step after the other, from whatever the journal has
-  abbrev pub TakesWith : Type 0 → (List Part → Type 0) → JournalWriter D g → JournalWriter D g → Type 0
+  abbrev pub TakesWith : Type 0 → (List Part → Type 0) → JournalWriter J → JournalWriter J → Type 0
   TakesWith G P old new =
-      (head : Head) (records waiting : List Record) → Has seen may_leave old.journal head records waiting → (ps : List Part) × Takes seen may_leave G old new head records waiting ps × P ps
+      (base : Base) (records waiting : List Record) → kind.has old.journal base records waiting → (ps : List Part) × Takes kind G old new base records waiting ps × P ps
 
-  pub takes_then : (G : Type 0) (P Q R : List Part → Type 0) (old mid new : JournalWriter D g) → TakesWith ⊥ P old mid → TakesWith G Q mid new → ((ps qs : List Part) → P ps → Q qs → R (ps ++ qs)) → TakesWith G R old new
-  takes_then G P Q R old mid new first then both head records waiting has =
-      let a = first head records waiting has in
-      let h = front_of old mid head records waiting a.0 a.1 in
-      let b = then head (records ++ h.front) h.back h.has in
-      (a.0 ++ b.0, takes_more G old mid new head records waiting a.0 b.0 a.1 h b.1, both a.0 b.0 a.2 b.2)
+  pub takes_then : (G : Type 0) (P Q R : List Part → Type 0) (old mid new : JournalWriter J) → TakesWith ⊥ P old mid → TakesWith G Q mid new → ((ps qs : List Part) → P ps → Q qs → R (ps ++ qs)) → TakesWith G R old new
+  takes_then G P Q R old mid new first then both base records waiting has =
+      let a = first base records waiting has in
+      let h = front_of old mid base records waiting a.0 a.1 in
+      let b = then base (records ++ h.front) h.back h.has in
+      (a.0 ++ b.0, takes_more G old mid new base records waiting a.0 b.0 a.1 h b.1, both a.0 b.0 a.2 b.2)

@@ -10,6 +10,7 @@ use Rattle.sqlite_disk.specs.contracts.start.Wary as Wary
 use Rattle.sb_durable.proofs.journal_writer.JournalWriter.TheSendSync as journal_writer
 use Rattle.sb_durable.proofs.recorder.Callers.TheSendSync as callers
 use Rattle.sb_durable.specs.contracts.recorder.Callers as Callers
+use Rattle.sb_durable.specs.contracts.journal.Journal as Journal
 use Rattle.sb_durable.specs.contracts.journal_writer.JournalWriter as JournalWriter
 use Rattle.sb_durable.proofs.system_file.Syncing.TheSendSync as syncing
 use Rattle.sb_durable.specs.contracts.pending_entries.PendingEntries as PendingEntries
@@ -18,9 +19,13 @@ use Rattle.sb_durable.specs.contracts.system_file.SystemFile as SystemFile
 pub callers_send : IsSend Callers.the_row
 callers_send = search (sendable, crosses, frees, callers.the_send) depth 40
 
+module _ (B : RattleType) where
+  pub book_send : IsSend B → IsSend (JournalWriter.the_row B)
+  book_send journal = search (sendable, crosses, frees, journal_writer.the_send, journal) depth 40
+
 module _ (D : RattleType) (d : disk.Ghosts D.Denot) where
-  pub book_send : IsSend D → IsSend (JournalWriter.the_row D d)
-  book_send file = search (sendable, crosses, frees, journal_writer.the_send, file) depth 40
+  pub journal_send : IsSend D → IsSend (Journal.the_row D d)
+  journal_send file = search (sendable, crosses, frees, file) depth 40
 
 -- the file of a path may be sent
 noted_send : IsSend PendingEntries.the_row

@@ -1,30 +1,28 @@
 //! The journal, and how much of each trail is recorded in it.
 ghost use Rattle.std.specs.Prelude.{◌≡◌, ◌⊎◌, ◌+◌, ◌<◌, ◌≤◌, ◌++◌, [], ◌∷◌, List, ℕ, true, length, slice_set, is_ok, IfOk, IfErr, OnOk, OnErr, IsErr, IsTrue};
-ghost use Rattle.sb_durable.specs.Log.{IsSpent};
+ghost use Rattle.sb_durable.specs.BatchJournals.{Base};
 ghost use Rattle.sb_durable.specs.Records.{Entry};
-ghost use Rattle.sb_durable.specs.Journal.{Has};
-ghost use Rattle.sb_durable.specs.declared.journal_header.Head.{Head};
 ghost use Rattle.sb_durable.specs.EntryReaders.{record_of_note};
 ghost use Rattle.sb_durable.specs.Recording.{Part, records_of, renewals_of, AreAmong, AreOf, Reaches};
 
 use crate::entry_reader::{EntryReader, PendingEntry, ReadReach};
 use crate::record::{RENEWAL_SIZE, renewal};
 use crate::recorded_reach::RecordingStart;
-use crate::{Disk, Journal, JournalError, Record, RecordedReach};
+use crate::{BatchJournal, JournalError, Record, RecordedReach};
 use sb_host::Lending;
 use sb_wire::LINE_LIMIT;
 use std::alloc::Global;
 use std::sync::Wait;
 
 #[derive(Drop)]
-pub(crate) struct JournalWriter<D: Disk> {
+pub(crate) struct JournalWriter<B> {
     pub(crate) alloc: Global,
-    pub(crate) journal: Journal<D>,
+    pub(crate) journal: B,
     /// How far each tenant is recorded.
     pub(crate) recorded: Vec<RecordedReach>,
 }
 
-impl<D: Disk> JournalWriter<D> {
+impl<B: BatchJournal> JournalWriter<B> {
     ghost use Rattle.sb_durable.specs.EntryReaders.{IsStaged};
     ghost use Rattle.sb_durable.specs.RecordedTrails.{BringsUp, StagesNoted, StagesNothing, StagesSome, Takes};
 
@@ -36,10 +34,10 @@ impl<D: Disk> JournalWriter<D> {
         host: H,
         tenants: &[u32],
     ) -> Result<(), JournalError>
-        ensures ok { OnOk result (BringsUp D.Disk.seen D.Disk.may_leave self.old self.new tenants.now) }
-        ensures err { OnErr result ((head : Head) (records waiting : List Entry) → Has D.Disk.seen D.Disk.may_leave self.old.journal head records waiting
-            → (parts : List Part) × Takes D.Disk.seen D.Disk.may_leave (IsSpent self.new.journal.log) self.old self.new head records waiting parts × AreAmong tenants.now parts) }
-        ensures spent { IsSpent self.old.journal.log → IsErr result × (self.new ≡ self.old) }
+        ensures ok { OnOk result (BringsUp B.BatchJournal self.old self.new tenants.now) }
+        ensures err { OnErr result ((base : Base) (records waiting : List Entry) → B.BatchJournal.has self.old.journal base records waiting
+            → (parts : List Part) × Takes B.BatchJournal (B.BatchJournal.is_over self.new.journal) self.old self.new base records waiting parts × AreAmong tenants.now parts) }
+        ensures spent { B.BatchJournal.is_over self.old.journal → IsErr result × (self.new ≡ self.old) }
     {
         self.journal.is_kept();
         if self.journal.is_spent() {
@@ -58,10 +56,10 @@ impl<D: Disk> JournalWriter<D> {
         host: H,
         tenant: u32,
     ) -> Result<(), JournalError>
-        ensures ok { OnOk result ((head : Head) (records waiting : List Entry) → Has D.Disk.seen D.Disk.may_leave self.old.journal head records waiting
-            → (parts : List Part) × Takes D.Disk.seen D.Disk.may_leave ⊥ self.old self.new head records waiting parts × AreOf tenant parts × Reaches parts tenant) }
-        ensures err { OnErr result ((head : Head) (records waiting : List Entry) → Has D.Disk.seen D.Disk.may_leave self.old.journal head records waiting
-            → (parts : List Part) × Takes D.Disk.seen D.Disk.may_leave (IsSpent self.new.journal.log) self.old self.new head records waiting parts × AreOf tenant parts) }
+        ensures ok { OnOk result ((base : Base) (records waiting : List Entry) → B.BatchJournal.has self.old.journal base records waiting
+            → (parts : List Part) × Takes B.BatchJournal ⊥ self.old self.new base records waiting parts × AreOf tenant parts × Reaches parts tenant) }
+        ensures err { OnErr result ((base : Base) (records waiting : List Entry) → B.BatchJournal.has self.old.journal base records waiting
+            → (parts : List Part) × Takes B.BatchJournal (B.BatchJournal.is_over self.new.journal) self.old self.new base records waiting parts × AreOf tenant parts) }
     {
         self.journal.is_kept();
         for _ in rt.forever() {
@@ -81,10 +79,10 @@ impl<D: Disk> JournalWriter<D> {
         host: H,
         tenant: u32,
     ) -> Result<bool, JournalError>
-        ensures ok { IfOk result (λ is_whole. (head : Head) (records waiting : List Entry) → Has D.Disk.seen D.Disk.may_leave self.old.journal head records waiting
-            → (parts : List Part) × Takes D.Disk.seen D.Disk.may_leave ⊥ self.old self.new head records waiting parts × AreOf tenant parts × (IsTrue is_whole → Reaches parts tenant)) }
-        ensures err { OnErr result ((head : Head) (records waiting : List Entry) → Has D.Disk.seen D.Disk.may_leave self.old.journal head records waiting
-            → (parts : List Part) × Takes D.Disk.seen D.Disk.may_leave (IsSpent self.new.journal.log) self.old self.new head records waiting parts × AreOf tenant parts) }
+        ensures ok { IfOk result (λ is_whole. (base : Base) (records waiting : List Entry) → B.BatchJournal.has self.old.journal base records waiting
+            → (parts : List Part) × Takes B.BatchJournal ⊥ self.old self.new base records waiting parts × AreOf tenant parts × (IsTrue is_whole → Reaches parts tenant)) }
+        ensures err { OnErr result ((base : Base) (records waiting : List Entry) → B.BatchJournal.has self.old.journal base records waiting
+            → (parts : List Part) × Takes B.BatchJournal (B.BatchJournal.is_over self.new.journal) self.old self.new base records waiting parts × AreOf tenant parts) }
     {
         let place = tenant as usize;
         if place >= self.recorded.len() {
@@ -115,7 +113,7 @@ impl<D: Disk> JournalWriter<D> {
     fn stage_noted(&mut self, tenant: u32, notes: &EntryReader) -> Result<bool, JournalError>
         requires { tenant < length self.old.recorded.items }
         ensures whole { IfOk result (λ is_whole. IsStaged notes.now.reach is_whole) }
-        ensures staged { StagesNoted D.Disk.seen D.Disk.may_leave self.old self.new tenant notes.now (is_ok result) }
+        ensures staged { StagesNoted B.BatchJournal self.old self.new tenant notes.now (is_ok result) }
     {
         match notes.reach {
             ReadReach::Nowhere => Err(JournalError::Unrecorded),
@@ -135,7 +133,7 @@ impl<D: Disk> JournalWriter<D> {
     ) -> Result<bool, JournalError>
         requires { tenant < length self.old.recorded.items }
         ensures all { IfOk result (λ gives. gives ≡ is_all) }
-        ensures staged { StagesSome D.Disk.seen D.Disk.may_leave self.old self.new tenant start notes.now (is_ok result) }
+        ensures staged { StagesSome B.BatchJournal self.old self.new tenant start notes.now (is_ok result) }
     {
         let mut reach = start.reach;
         self.begin(tenant, start)?;
@@ -154,9 +152,9 @@ impl<D: Disk> JournalWriter<D> {
     fn begin(&mut self, tenant: u32, start: RecordingStart) -> Result<(), JournalError>
         requires { tenant < length self.old.recorded.items }
         ensures counts { OnOk result (self.new.recorded.items ≡ slice_set self.old.recorded.items tenant start.reach) }
-        ensures has { OnOk result ((head : Head) (records waiting : List Entry) → Has D.Disk.seen D.Disk.may_leave self.old.journal head records waiting
-            → Has D.Disk.seen D.Disk.may_leave self.new.journal head records (waiting ++ renewals_of tenant start.is_renewed)) }
-        ensures err { OnErr result (StagesNothing D.Disk.seen D.Disk.may_leave self.old self.new) }
+        ensures has { OnOk result ((base : Base) (records waiting : List Entry) → B.BatchJournal.has self.old.journal base records waiting
+            → B.BatchJournal.has self.new.journal base records (waiting ++ renewals_of tenant start.is_renewed)) }
+        ensures err { OnErr result (StagesNothing B.BatchJournal self.old self.new) }
     {
         stage_renewal(&mut self.journal, tenant, start.is_renewed)?;
         self.recorded[tenant as usize] = start.reach;
@@ -165,26 +163,26 @@ impl<D: Disk> JournalWriter<D> {
 
     /// Commits what is staged.
     fn commit(&mut self) -> Result<(), JournalError>
-        ensures ok { OnOk result ((head : Head) (records waiting : List Entry) → Has D.Disk.seen D.Disk.may_leave self.old.journal head records waiting
-            → Takes D.Disk.seen D.Disk.may_leave ⊥ self.old self.new head records waiting []
-            × Has D.Disk.seen D.Disk.may_leave self.new.journal head (records ++ waiting) []) }
-        ensures err { OnErr result ((head : Head) (records waiting : List Entry) → Has D.Disk.seen D.Disk.may_leave self.old.journal head records waiting
-            → Takes D.Disk.seen D.Disk.may_leave (IsSpent self.new.journal.log) self.old self.new head records waiting []) }
+        ensures ok { OnOk result ((base : Base) (records waiting : List Entry) → B.BatchJournal.has self.old.journal base records waiting
+            → Takes B.BatchJournal ⊥ self.old self.new base records waiting []
+            × B.BatchJournal.has self.new.journal base (records ++ waiting) []) }
+        ensures err { OnErr result ((base : Base) (records waiting : List Entry) → B.BatchJournal.has self.old.journal base records waiting
+            → Takes B.BatchJournal (B.BatchJournal.is_over self.new.journal) self.old self.new base records waiting []) }
     {
         self.journal.commit()
     }
 }
 
 /// Stages the renewal of a tenant, if there is one.
-fn stage_renewal<D: Disk>(
-    journal: &mut Journal<D>,
+fn stage_renewal<B: BatchJournal>(
+    journal: &mut B,
     tenant: u32,
     is_renewed: bool,
 ) -> Result<(), JournalError>
-    ensures ok { OnOk result ((head : Head) (records waiting : List Entry) → Has D.Disk.seen D.Disk.may_leave journal.old head records waiting
-        → Has D.Disk.seen D.Disk.may_leave journal.new head records (waiting ++ renewals_of tenant is_renewed)) }
-    ensures err { OnErr result ((head : Head) (records waiting : List Entry) → Has D.Disk.seen D.Disk.may_leave journal.old head records waiting
-        → Has D.Disk.seen D.Disk.may_leave journal.new head records waiting) }
+    ensures ok { OnOk result ((base : Base) (records waiting : List Entry) → B.BatchJournal.has journal.old base records waiting
+        → B.BatchJournal.has journal.new base records (waiting ++ renewals_of tenant is_renewed)) }
+    ensures err { OnErr result ((base : Base) (records waiting : List Entry) → B.BatchJournal.has journal.old base records waiting
+        → B.BatchJournal.has journal.new base records waiting) }
 {
     match is_renewed {
         true => journal.stage(renewal(tenant)),
@@ -193,15 +191,15 @@ fn stage_renewal<D: Disk>(
 }
 
 /// Stages one step of a tenant.
-fn stage_one<D: Disk>(
-    journal: &mut Journal<D>,
+fn stage_one<B: BatchJournal>(
+    journal: &mut B,
     tenant: u32,
     note: &PendingEntry,
 ) -> Result<(), JournalError>
-    ensures ok { OnOk result ((head : Head) (records waiting : List Entry) → Has D.Disk.seen D.Disk.may_leave journal.old head records waiting
-        → Has D.Disk.seen D.Disk.may_leave journal.new head records (waiting ++ record_of_note tenant note.now ∷ [])) }
-    ensures err { OnErr result ((head : Head) (records waiting : List Entry) → Has D.Disk.seen D.Disk.may_leave journal.old head records waiting
-        → Has D.Disk.seen D.Disk.may_leave journal.new head records waiting) }
+    ensures ok { OnOk result ((base : Base) (records waiting : List Entry) → B.BatchJournal.has journal.old base records waiting
+        → B.BatchJournal.has journal.new base records (waiting ++ record_of_note tenant note.now ∷ [])) }
+    ensures err { OnErr result ((base : Base) (records waiting : List Entry) → B.BatchJournal.has journal.old base records waiting
+        → B.BatchJournal.has journal.new base records waiting) }
 {
     let text = note.text();
     if text.len() > LINE_LIMIT {

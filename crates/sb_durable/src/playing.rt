@@ -71,7 +71,7 @@ pub fn open_recorder<H: Renewing, T: Wait + Clock + Files<File = fs::File>, O: L
     syncs: Syncs,
     head: Head,
     log: &O,
-) -> Result<(Recorder<H, File<Wary>>, Vec<Stub>), JournalFault> {
+) -> Result<(Recorder<H, Journal<File<Wary>>>, Vec<Stub>), JournalFault> {
     match played_journal(rt, alloc, host, path, syncing_of(syncs), head, log) {
         Ok((journal, played)) => {
             let Played {

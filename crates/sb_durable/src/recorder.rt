@@ -3,7 +3,7 @@ ghost use Rattle.std.specs.Prelude.{◌≡◌, IsTrue, OnOk};
 ghost use Rattle.sb_durable.specs.RecordedTrails.{AreKept, HasEach};
 
 use crate::journal_writer::JournalWriter;
-use crate::{Disk, Journal, JournalError, RecordedReach};
+use crate::{BatchJournal, JournalError, RecordedReach};
 use sb_host::Lending;
 use std::alloc::Global;
 use std::mem;
@@ -11,10 +11,10 @@ use std::sync::{Mutex, Wait};
 
 /// Records the trails of a host's tenants in a journal.
 #[derive(Drop)]
-pub struct Recorder<H: Lending, D: Disk> {
+pub struct Recorder<H: Lending, B> {
     alloc: Global,
     host: H,
-    journal_writer: Mutex<JournalWriter<D>>,
+    journal_writer: Mutex<JournalWriter<B>>,
     callers: Mutex<Callers>,
 }
 
@@ -24,14 +24,9 @@ struct Callers {
     tenants: Vec<u32>,
 }
 
-impl<H: Lending, D: Disk> Recorder<H, D> {
+impl<H: Lending, B: BatchJournal> Recorder<H, B> {
     /// A recorder of this host in this journal, which has each tenant so far.
-    pub fn new(
-        alloc: Global,
-        host: H,
-        journal: Journal<D>,
-        recorded: Vec<RecordedReach>,
-    ) -> Recorder<H, D> {
+    pub fn new(alloc: Global, host: H, journal: B, recorded: Vec<RecordedReach>) -> Recorder<H, B> {
         Recorder {
             alloc,
             host,
@@ -50,7 +45,7 @@ impl<H: Lending, D: Disk> Recorder<H, D> {
     /// renewed (else: Unrecorded, and nothing of it is written from then on). After an error other than that and want of
     /// memory each further call fails and writes nothing.
     pub fn keep<T: Wait>(&self, rt: &T, tenants: &[u32]) -> Result<(), JournalError>
-        ensures { OnOk result (AreKept D.Disk tenants.now) }
+        ensures { OnOk result (AreKept B.BatchJournal tenants.now) }
     {
         let place = self.join(rt, tenants);
         let mut journal_writer = self.journal_writer.lock(rt);
@@ -85,8 +80,8 @@ impl<H: Lending, D: Disk> Recorder<H, D> {
         mem::replace(&mut *callers, none)
     }
 
-    /// Returns the file.
-    pub fn close(self) -> D {
+    /// Returns the file that is written.
+    pub fn close(self) -> B::Device {
         let Recorder { journal_writer, .. } = self;
         let JournalWriter { journal, .. } = journal_writer.into_inner();
         journal.close()
@@ -94,15 +89,15 @@ impl<H: Lending, D: Disk> Recorder<H, D> {
 }
 
 /// Records the trails of the tenants that wait, and those of the caller unless they are in that list at this place.
-fn catch_up_both<H: Lending, D: Disk, T: Wait>(
+fn catch_up_both<H: Lending, B: BatchJournal, T: Wait>(
     rt: &T,
     host: H,
-    journal_writer: &mut JournalWriter<D>,
+    journal_writer: &mut JournalWriter<B>,
     waiting: &[u32],
     place: Option<usize>,
     own: &[u32],
 ) -> Result<(), JournalError>
-    ensures { OnOk result (AreKept D.Disk own.now) }
+    ensures { OnOk result (AreKept B.BatchJournal own.now) }
 {
     match journal_writer.catch_up(rt, host, waiting) {
         Ok(()) => {}

@@ -4,7 +4,7 @@ ghost use Rattle.sb_durable.specs.RecordedTrails.{AreKept};
 
 use crate::event_log::EventLog;
 use crate::housekeeping::Chore;
-use sb_durable::{Disk, Flusher, JournalError, Recorder, tell_not_recorded};
+use sb_durable::{BatchJournal, Flusher, JournalError, Recorder, tell_not_recorded};
 use sb_host::Lending;
 use sb_server::{CommitHook, CommitStatus};
 use sb_words::Log;
@@ -64,10 +64,11 @@ impl<'k, R, T: Eprint + Clock> JournalHook<'k, R, T> {
     }
 }
 
-impl<'k, H: Lending, D: Disk, T: Eprint + Clock> CommitHook for JournalHook<'k, Recorder<H, D>, T> {
+impl<'k, H: Lending, B: BatchJournal, T: Eprint + Clock> CommitHook
+    for JournalHook<'k, Recorder<H, B>, T> {
     ghost is_set = { λ _. true };
 
-    ghost keeps = { λ _ tenants. AreKept D.Disk tenants };
+    ghost keeps = { λ _ tenants. AreKept B.BatchJournal tenants };
 
     fn is_set(&self) -> bool {
         true

@@ -7,7 +7,7 @@ use crate::server_context::{Entrance, ServerContext};
 use crate::server_end::ServerEnd;
 use crate::system::System;
 use sb_durable::{
-    File, Flusher, Head, JournalFault, Recorder, Wary, open_recorder, tell_no_journal,
+    File, Flusher, Head, Journal, JournalFault, Recorder, Wary, open_recorder, tell_no_journal,
 };
 use sb_host::{Renewing, Stub};
 use sb_monitor::{Chore, EventLog, JournalHook, Pages, StatusPort, SyncedChore};
@@ -57,7 +57,7 @@ where
     /// Serves connections that this recorder records, behind the sessions that left these receipts.
     fn serve_recorded<A: Admission + Sync, G: Chore, W: Sink>(
         &self,
-        restarted: (Recorder<H, File<Wary>>, Vec<Stub>),
+        restarted: (Recorder<H, Journal<File<Wary>>>, Vec<Stub>),
         flusher: Option<&Flusher<'k, EventLog<'k, T>>>,
         gate: Entrance<'_, '_, A, G>,
         port: &Option<StatusPort<Pages<'_, H, A, T>>>,

@@ -3,7 +3,6 @@ use Rattle.std.proofs.lemmas.Bool.{false≢true}
 use Rattle.std.proofs.lemmas.List.{append-nil, map_more, set-set}
 use Rattle.std.proofs.lemmas.Result.{err_from_is_err_and}
 use Rattle.sb_durable.specs.Records.{Entry}
-use Rattle.sb_durable.specs.Journal.{Has}
 use Rattle.sb_durable.specs.EntryReaders.{record_of_note}
 use Rattle.sb_durable.specs.Recording.{renewals_of}
 use Rattle.sb_durable.specs.declared.entry_reader.PendingEntry.{PendingEntry}
@@ -18,8 +17,8 @@ loop-note-init g c =
     record {
       reach = (λ i. record { volume = reach.volume; entries = none i });
       counts = c.in_ok-begin.ensures.counts;
-      has = λ head records waiting has.
-          subst (λ (w : List Entry). Has g.D.Disk.seen g.D.Disk.may_leave c.begin.new.self.journal head records (waiting ++ w)) (sym (append-nil (renewals_of c.args.tenant c.args.start.is_renewed))) (c.in_ok-begin.ensures.has head records waiting has);
+      has = λ base records waiting has.
+          subst (λ (w : List Entry). g.B.BatchJournal.has c.begin.new.self.journal base records (waiting ++ w)) (sym (append-nil (renewals_of c.args.tenant c.args.start.is_renewed))) (c.in_ok-begin.ensures.has base records waiting has);
     }
 
 pub loop-note-preserved : goal.loop-note-preserved
@@ -39,9 +38,9 @@ loop-note-preserved g c =
     record {
       reach = (λ j. record { volume = (inv.reach j).volume; entries = count j });
       counts = ap (λ (l : List RecordedReach). set l t (record { volume = c.loop-note.reach.volume; entries = c.in-Some.entries })) inv.counts ∙ set-set rec t c.loop-note.reach (record { volume = c.loop-note.reach.volume; entries = c.in-Some.entries });
-      has = λ head records waiting has.
-          subst (λ (w : List Entry). Has g.D.Disk.seen g.D.Disk.may_leave c.stage_one.new.journal head records w) (all waiting)
-          (c.in_ok-stage_one.ensures.ok head records _ (inv.has head records waiting has));
+      has = λ base records waiting has.
+          subst (λ (w : List Entry). g.B.BatchJournal.has c.stage_one.new.journal base records w) (all waiting)
+          (c.in_ok-stage_one.ensures.ok base records _ (inv.has base records waiting has));
     }
 
 -- some may be staged
@@ -51,6 +50,6 @@ returns-in_err-stage_one-clause-staged g c =
     let i = c.loop-note.note-index in
     let few : i ≤ length c.args.notes.now = omega (arith, c.loop-note-test.true) in
     let failed = err_from_is_err_and c.from_residual-in_err-stage_one.result c.from_residual-in_err-stage_one.ensures.1 in
-    staged_front g.D.Disk.seen g.D.Disk.may_leave _ _ c.args.tenant c.args.start c.args.notes.now i _ c.loop-note.reach few
+    staged_front g.B.BatchJournal _ _ c.args.tenant c.args.start c.args.notes.now i _ c.loop-note.reach few
     (λ (is : IsTrue (is_ok c.from_residual-in_err-stage_one.result)). absurd (false≢true (sym (ap (λ r. is_ok r) failed.1) ∙ is)))
-    inv.reach inv.counts (λ head records waiting has. c.in_err-stage_one.ensures.err head records _ (inv.has head records waiting has))
+    inv.reach inv.counts (λ base records waiting has. c.in_err-stage_one.ensures.err base records _ (inv.has base records waiting has))
