@@ -14,6 +14,7 @@ use Rattle.sb_durable.specs.contracts.journal.Journal as Journal
 use Rattle.sb_durable.specs.contracts.journal_writer.JournalWriter as JournalWriter
 use Rattle.sb_durable.proofs.system_file.Syncing.TheSendSync as syncing
 use Rattle.sb_durable.specs.contracts.pending_entries.PendingEntries as PendingEntries
+use Rattle.sb_durable.specs.contracts.row_journal.RowJournal as RowJournal
 use Rattle.sb_durable.specs.contracts.system_file.SystemFile as SystemFile
 
 pub callers_send : IsSend Callers.the_row
@@ -26,6 +27,9 @@ module _ (B : RattleType) where
 module _ (D : RattleType) (d : disk.Ghosts D.Denot) where
   pub journal_send : IsSend D → IsSend (Journal.the_row D d)
   journal_send file = search (sendable, crosses, frees, file) depth 40
+
+  pub row_journal_send : IsSend D → IsSend (RowJournal.the_row D d)
+  row_journal_send file = search (sendable, crosses, frees, file) depth 40
 
 -- the file of a path may be sent
 noted_send : IsSend PendingEntries.the_row

@@ -16,7 +16,7 @@ use std::time::{Duration, Instant};
 const TOLD: u64 = 1;
 
 /// True if commits are synced.
-pub(crate) fn syncing_of(syncs: Syncs) -> Syncing
+pub fn syncing_of(syncs: Syncs) -> Syncing
     ensures { result ≡ Syncing.Always ↔ syncs ≡ Syncs.Always }
 {
     match syncs {
@@ -27,7 +27,7 @@ pub(crate) fn syncing_of(syncs: Syncs) -> Syncing
 
 /// The bound of a journal's tenants. None has a higher one than 1,000, whatever a head says: where it does, no tenant is
 /// renewed.
-fn bound_of(head: Head) -> u32
+pub(crate) fn bound_of(head: Head) -> u32
     ensures { result ≤ 1000 }
 {
     head.bound.min(1000) as u32

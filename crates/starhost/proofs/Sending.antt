@@ -2,8 +2,7 @@
 use denote.RattleType.{RattleType}
 use denote.Param.Send.{IsSend, IsSync, sendable}
 use Rattle.std.proofs.Crossing.{crosses}
-use Rattle.sb_durable.proofs.Sending.{book_send, callers_send, journal_send}
-use Rattle.sb_durable.specs.contracts.journal.Journal as Journal
+use Rattle.sb_durable.proofs.Sending.{book_send, callers_send}
 use Rattle.sb_durable.specs.contracts.journal_writer.JournalWriter as JournalWriter
 use Rattle.sb_durable.specs.contracts.recorder.Callers as Callers
 use Rattle.sb_durable.specs.contracts.recorder.Recorder as Recorder
@@ -13,7 +12,5 @@ module _ (H B S : RattleType) where
   sync_of : IsSync H → IsSend (JournalWriter.the_row B) → IsSend Callers.the_row → IsSync (Recorder.the_row H B S)
   sync_of host held waiting = search (sendable, crosses) depth 60
 
--- in one file
-module _ (H D S : RattleType) (d : _) where
-  pub recorder_sync : IsSync H → IsSend D → IsSync (Recorder.the_row H (Journal.the_row D d) S)
-  recorder_sync host file = sync_of H (Journal.the_row D d) S host (book_send (Journal.the_row D d) (journal_send D d file)) callers_send
+  pub recorder_sync : IsSync H → IsSend B → IsSync (Recorder.the_row H B S)
+  recorder_sync host journal = sync_of host (book_send B journal) callers_send

@@ -3,11 +3,12 @@ ghost use Rattle.std.specs.Prelude.{OnOk};
 ghost use Rattle.sb_monitor.specs.Listening.{TellsPort};
 
 use crate::fault::ProgramFault;
+use crate::folder_server::is_folder;
 use crate::server_context::{Entrance, ServerContext};
 use crate::server_end::ServerEnd;
 use crate::system::System;
 use sb_durable::{
-    File, Flusher, Head, Journal, JournalFault, Recorder, Wary, open_recorder, tell_no_journal,
+    BatchJournal, Flusher, Head, JournalFault, Recorder, open_recorder, tell_no_journal,
 };
 use sb_host::{Renewing, Stub};
 use sb_monitor::{Chore, EventLog, JournalHook, Pages, StatusPort, SyncedChore};
@@ -29,6 +30,9 @@ where
     ) -> Result<ServerEnd, ProgramFault>
         ensures { OnOk result (TellsPort (W.contents writer.old) (W.contents writer.new)) }
     {
+        if is_folder(self.rt, journal.path) {
+            return self.record_in_folder(journal, gate, port, writer);
+        }
         let head = Head {
             tenants: self.plan.tenants,
             bound: u64::from(self.plan.bound),
@@ -55,9 +59,14 @@ where
     }
 
     /// Serves connections that this recorder records, behind the sessions that left these receipts.
-    fn serve_recorded<A: Admission + Sync, G: Chore, W: Sink>(
+    pub(crate) fn serve_recorded<
+        B: BatchJournal + Send + Drop,
+        A: Admission + Sync,
+        G: Chore,
+        W: Sink,
+    >(
         &self,
-        restarted: (Recorder<H, Journal<File<Wary>>>, Vec<Stub>),
+        restarted: (Recorder<H, B>, Vec<Stub>),
         flusher: Option<&Flusher<'k, EventLog<'k, T>>>,
         gate: Entrance<'_, '_, A, G>,
         port: &Option<StatusPort<Pages<'_, H, A, T>>>,

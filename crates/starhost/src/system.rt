@@ -6,13 +6,16 @@ use std::rt::{Clock, Env, Files};
 use std::sync::Wait;
 use std::thread::Threads;
 
-/// A system with threads, sockets, files, a clock, an environment and a standard error.
+/// A system with threads, sockets, files, a clock, an environment, a heap and a standard error.
 pub trait System: Threads
     + Wait
     + Net<Listener = TcpListener, Stream = TcpStream>
     + Eprint
     + Clock
     + Env
+    + Alloc
+    + Clone
+    + Drop
     + Files<File = File> {}
 
 impl<
@@ -22,5 +25,8 @@ impl<
         + Eprint
         + Clock
         + Env
+        + Alloc
+        + Clone
+        + Drop
         + Files<File = File>,
 > System for T {}
