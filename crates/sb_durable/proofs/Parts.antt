@@ -111,11 +111,11 @@ whole_reach OfPart whole staged is = absurd (cc (staged, is))
 whole_reach End whole staged is = refl
 
 -- the files have the records, or those that waited, too
-kept_by : {J V : Type 0} (kind : Ghosts J V) (base : Base) (records waiting : List Record) (files : List (List ℕ)) → kind.keeps base records files ⊎ kind.keeps base (records ++ waiting) files → KeepsFront kind base records (waiting ++ []) files
+kept_by : {J : Type 0} (kind : Ghosts J) (base : Base) (records waiting : List Record) (files : List (List ℕ)) → kind.keeps base records files ⊎ kind.keeps base (records ++ waiting) files → KeepsFront kind base records (waiting ++ []) files
 kept_by kind base records waiting files (inl before) = record { front = []; back = waiting; all = append-nil waiting; keeps = subst (λ (r : List Record). kind.keeps base r files) (sym (append-nil records)) before }
 kept_by kind base records waiting files (inr after) = record { front = waiting; back = []; all = refl; keeps = after }
 
-module _ {J V : Type 0} (kind : Ghosts J V) where
+module _ {J : Type 0} (kind : Ghosts J) where
   -- nothing is recorded yet
   pub takes_none : (G : Type 0) (old new : JournalWriter J) (base : Base) (records waiting : List Record) → new.recorded.items ≡ old.recorded.items → kind.has new.journal base records waiting
       → ((files : List (List ℕ)) → kind.leaves new.journal base files → kind.keeps base records files) → Takes kind G old new base records waiting []

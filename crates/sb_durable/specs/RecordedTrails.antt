@@ -13,33 +13,33 @@ use Rattle.sb_durable.specs.declared.journal_writer.JournalWriter.{JournalWriter
 use Rattle.sb_durable.specs.declared.recorded_reach.RecordingStart.{RecordingStart}
 
 -- The files have these records, and a first part of those behind them.
-pub record KeepsFront {J V : Type 0} (kind : Ghosts J V) (base : Base) (records more : List Record) (files : List (List ℕ)) : Type 0 where
+pub record KeepsFront {J : Type 0} (kind : Ghosts J) (base : Base) (records more : List Record) (files : List (List ℕ)) : Type 0 where
   pub front : List Record
   pub back : List Record
   pub all : more ≡ front ++ back
   pub keeps : kind.keeps base (records ++ front) files
 
 -- The journal has these records and a first part of those behind them; the others wait.
-pub record HasFront {J V : Type 0} (kind : Ghosts J V) (journal : J) (base : Base) (records more : List Record) : Type 0 where
+pub record HasFront {J : Type 0} (kind : Ghosts J) (journal : J) (base : Base) (records more : List Record) : Type 0 where
   pub front : List Record
   pub back : List Record
   pub all : more ≡ front ++ back
   pub has : kind.has journal base (records ++ front) back
 
 -- Beside these records and those that waited, the book has recorded these parts, unless it is given up. A crash leaves a first part of them.
-pub record Takes {J V : Type 0} (kind : Ghosts J V) (given_up : Type 0) (old new : JournalWriter J) (base : Base) (records waiting : List Record) (parts : List Part) : Type 0 where
+pub record Takes {J : Type 0} (kind : Ghosts J) (given_up : Type 0) (old new : JournalWriter J) (base : Base) (records waiting : List Record) (parts : List Part) : Type 0 where
   pub counts : Counts old.recorded.items parts new.recorded.items
   pub has : given_up ⊎ HasFront kind new.journal base records (waiting ++ records_of parts)
   pub crash : (files : List (List ℕ)) → kind.leaves new.journal base files → KeepsFront kind base records (waiting ++ records_of parts) files
 
 -- These steps of a tenant wait then, too, behind the renewal if there is one, and are counted.
-pub record Stages {J V : Type 0} (kind : Ghosts J V) (old new : JournalWriter J) (tenant : ℕ) (start : RecordingStart) (notes : List PendingEntry) : Type 0 where
+pub record Stages {J : Type 0} (kind : Ghosts J) (old new : JournalWriter J) (tenant : ℕ) (start : RecordingStart) (notes : List PendingEntry) : Type 0 where
   pub counts : new.recorded.items ≡ slice_set old.recorded.items tenant (record { volume = start.reach.volume; entries = start.reach.entries + length notes })
   pub has : (base : Base) (records waiting : List Record) → kind.has old.journal base records waiting
       → kind.has new.journal base records (waiting ++ (renewals_of tenant start.is_renewed ++ map (record_of_note tenant) notes))
 
 -- nothing more waits
-pub record StagesNothing {J V : Type 0} (kind : Ghosts J V) (old new : JournalWriter J) : Type 0 where
+pub record StagesNothing {J : Type 0} (kind : Ghosts J) (old new : JournalWriter J) : Type 0 where
   pub counts : new.recorded.items ≡ old.recorded.items
   pub has : (base : Base) (records waiting : List Record) → kind.has old.journal base records waiting → kind.has new.journal base records waiting
 
@@ -49,7 +49,7 @@ pub record Brings (tenants : List ℕ) (parts : List Part) : Type 0 where
   pub no_others : AreAmong tenants parts
 
 -- A book was brought up to the trails of these tenants: what it had, what waited and these parts are on the disk.
-abbrev pub BringsUp : {J V : Type 0} → Ghosts J V → JournalWriter J → JournalWriter J → List ℕ → Type 0
+abbrev pub BringsUp : {J : Type 0} → Ghosts J → JournalWriter J → JournalWriter J → List ℕ → Type 0
 BringsUp kind old new tenants =
     (base : Base) (records waiting : List Record) → kind.has old.journal base records waiting
     → (parts : List Part) × Takes kind ⊥ old new base records waiting parts
@@ -60,7 +60,7 @@ abbrev pub HasEach : List ℕ → List ℕ → Type 0
 HasEach list tenants = (t : ℕ) → Contains tenants t → Contains list t
 
 -- A book was brought up to the trails of tenants, and these were among them.
-pub record AreKept {J V : Type 0} (kind : Ghosts J V) (tenants : List ℕ) : Type 0 where
+pub record AreKept {J : Type 0} (kind : Ghosts J) (tenants : List ℕ) : Type 0 where
   pub old : JournalWriter J
   pub new : JournalWriter J
   pub all : List ℕ
@@ -68,23 +68,23 @@ pub record AreKept {J V : Type 0} (kind : Ghosts J V) (tenants : List ℕ) : Typ
   pub brings : BringsUp kind old new all
 
 -- The first of these steps wait, and all of them where all were taken.
-pub record StagesFront {J V : Type 0} (kind : Ghosts J V) (old new : JournalWriter J) (tenant : ℕ) (start : RecordingStart) (notes : List PendingEntry) (all : Bool) : Type 0 where
+pub record StagesFront {J : Type 0} (kind : Ghosts J) (old new : JournalWriter J) (tenant : ℕ) (start : RecordingStart) (notes : List PendingEntry) (all : Bool) : Type 0 where
   pub count : ℕ
   pub few : count ≤ length notes
   pub whole : IsTrue all → count ≡ length notes
   pub stages : Stages kind old new tenant start (take count notes)
 
 -- so it is, or not even the renewal could wait
-abbrev pub StagesSome : {J V : Type 0} → Ghosts J V → JournalWriter J → JournalWriter J → ℕ → RecordingStart → List PendingEntry → Bool → Type 0
+abbrev pub StagesSome : {J : Type 0} → Ghosts J → JournalWriter J → JournalWriter J → ℕ → RecordingStart → List PendingEntry → Bool → Type 0
 StagesSome kind old new tenant start notes all =
     (StagesNothing kind old new × IsFalse all) ⊎ StagesFront kind old new tenant start notes all
 
 -- What was noted waits; nothing does where nothing was reached.
-abbrev pub StagesBy : {J V : Type 0} → Ghosts J V → JournalWriter J → JournalWriter J → ℕ → RecordingStart → List PendingEntry → Bool → ReadReach → Type 0
+abbrev pub StagesBy : {J : Type 0} → Ghosts J → JournalWriter J → JournalWriter J → ℕ → RecordingStart → List PendingEntry → Bool → ReadReach → Type 0
 StagesBy kind old new tenant start notes all reach.Nowhere = new ≡ old
 StagesBy kind old new tenant start notes all reach.NoMemory = new ≡ old
 StagesBy kind old new tenant start notes all reach.Part = StagesSome kind old new tenant start notes all
 StagesBy kind old new tenant start notes all reach.End = StagesSome kind old new tenant start notes all
 
-abbrev pub StagesNoted : {J V : Type 0} → Ghosts J V → JournalWriter J → JournalWriter J → ℕ → EntryReader → Bool → Type 0
+abbrev pub StagesNoted : {J : Type 0} → Ghosts J → JournalWriter J → JournalWriter J → ℕ → EntryReader → Bool → Type 0
 StagesNoted kind old new tenant notes all = StagesBy kind old new tenant notes.start notes.list.items all notes.reach

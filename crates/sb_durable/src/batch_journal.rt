@@ -1,10 +1,11 @@
 //! A journal that records are staged in and committed to, over one file or over the files of a folder.
 ghost use Rattle.std.specs.Prelude.{◌≡◌, ◌⊎◌, ◌≤◌, ◌^◌, ◌++◌, ◌↔◌, [], ◌∷◌, Bool, List, ℕ, length, OnOk, OnErr, IsTrue};
-ghost use Rattle.sb_durable.specs.BatchJournals.{Base};
+ghost use Rattle.sb_durable.specs.BatchJournals.{Base, IsLater};
 ghost use Rattle.sb_durable.specs.Records.{Entry, entry_of};
 
 use crate::segment::SegmentError;
-use crate::{Journal, JournalError, Record, RowJournal};
+use crate::segmented_journal::MakesSegments;
+use crate::{Journal, JournalError, Record, RowJournal, SegmentedJournal};
 use sqlite_disk::Disk;
 
 /// A journal. What is staged waits in memory until it is committed.
@@ -23,8 +24,6 @@ pub trait BatchJournal {
 
     /// A write or a sync has failed, and nothing more is written.
     ghost is_over: { Self → Type 0 };
-
-    type Device;
 
     /// Stages a record for the next commit. Errors: Full, or Memory.
     fn stage(&mut self, line: Record) -> Result<(), JournalError>
@@ -47,6 +46,11 @@ pub trait BatchJournal {
             → (files : List (List ℕ)) → leaves self.new base files → keeps base entries files ⊎ keeps base (entries ++ waiting) files }
         ensures clean { IsTrue (is_clean self.new) → IsTrue (is_clean self.old) };
 
+    /// Goes on in a further file, where the one that is written is full. Where that fails, it goes on where it was.
+    fn turn(&mut self)
+        ensures { IsTrue (is_clean self.new) → (base : Base) (entries waiting : List Entry) → has self.old base entries waiting
+            → (later : Base) × IsLater base later × has self.new later entries waiting };
+
     /// Whatever a crash leaves of the files as they are has the records.
     fn is_kept(&self)
         ensures { (base : Base) (entries waiting : List Entry) → has self.now base entries waiting
@@ -59,9 +63,6 @@ pub trait BatchJournal {
     /// True if a write or a sync has failed. Then nothing more is written.
     fn is_spent(&self) -> bool
         ensures { IsTrue result ↔ is_over self.now };
-
-    /// Returns the file that is written. Staged records are dropped.
-    fn close(self) -> Self::Device;
 }
 
 impl<D: Disk> BatchJournal for Journal<D> {
@@ -78,8 +79,6 @@ impl<D: Disk> BatchJournal for Journal<D> {
 
     ghost is_over = { IsFileSpent };
 
-    type Device = D;
-
     fn stage(&mut self, line: Record) -> Result<(), JournalError> {
         Journal::stage(self, line)
     }
@@ -87,6 +86,8 @@ impl<D: Disk> BatchJournal for Journal<D> {
     fn commit(&mut self) -> Result<(), JournalError> {
         Journal::commit(self)
     }
+
+    fn turn(&mut self) {}
 
     fn is_kept(&self) {
         Journal::is_kept(self);
@@ -99,56 +100,49 @@ impl<D: Disk> BatchJournal for Journal<D> {
     fn is_spent(&self) -> bool {
         Journal::is_spent(self)
     }
-
-    fn close(self) -> D {
-        Journal::close(self)
-    }
 }
 
-impl<D: Disk> BatchJournal for RowJournal<D> {
-    ghost use Rattle.sb_durable.specs.BatchJournals.{HasBehind, IsRowSpent, KeepsFiles, LeavesFiles};
-    ghost use Rattle.sb_durable.specs.RowJournals.{disk_of};
+impl<D: Disk + Drop, M: MakesSegments<D>> BatchJournal for SegmentedJournal<D, M> {
+    ghost use Rattle.sb_durable.specs.BatchJournals.{HasSegments, AreSpent, KeepsFiles, LeavesSegments, segments_disk};
 
-    ghost has = { HasBehind D.Disk.seen D.Disk.may_leave };
+    ghost has = { HasSegments D.Disk.seen D.Disk.may_leave };
 
-    ghost leaves = { LeavesFiles D.Disk.may_leave };
+    ghost leaves = { LeavesSegments D.Disk.may_leave };
 
     ghost keeps = { KeepsFiles };
 
-    ghost is_clean = { λ journal. D.Disk.is_clean (disk_of journal) };
+    ghost is_clean = { λ journal. D.Disk.is_clean (segments_disk journal) };
 
-    ghost is_over = { IsRowSpent };
-
-    type Device = D;
+    ghost is_over = { AreSpent };
 
     fn stage(&mut self, line: Record) -> Result<(), JournalError> {
-        match RowJournal::stage(self, line) {
+        match self.row.stage(line) {
             Ok(()) => Ok(()),
             Err(error) => Err(reason_of(error)),
         }
     }
 
     fn commit(&mut self) -> Result<(), JournalError> {
-        match RowJournal::commit(self) {
+        match self.row.commit() {
             Ok(()) => Ok(()),
             Err(error) => Err(reason_of(error)),
         }
     }
 
+    fn turn(&mut self) {
+        self.turn_when_full();
+    }
+
     fn is_kept(&self) {
-        RowJournal::is_kept(self);
+        self.row.is_kept();
     }
 
     fn room(&self) -> usize {
-        RowJournal::room(self)
+        self.row.room()
     }
 
     fn is_spent(&self) -> bool {
-        RowJournal::is_spent(self)
-    }
-
-    fn close(self) -> D {
-        RowJournal::close(self)
+        self.row.is_spent()
     }
 }
 

@@ -2,15 +2,17 @@
 
 use crate::log_lines::tell_not_recorded;
 use sb_words::Log;
+use std::fmt::Display;
 use std::fs::{self, File};
 use std::io;
 use std::rt::Files;
 use std::sync::atomic::{AtomicBool, Ordering};
+use std::sync::{Mutex, Wait};
 
 /// Syncs a file where something was written since the last sync.
 #[derive(Drop)]
 pub struct Flusher<'k, O> {
-    file: File,
+    file: Mutex<Option<File>>,
     log: &'k O,
     /// Something was written since the last sync.
     is_behind: AtomicBool,
@@ -18,6 +20,16 @@ pub struct Flusher<'k, O> {
 }
 
 impl<'k, O: Log> Flusher<'k, O> {
+    /// A flusher of no file yet.
+    pub fn new(log: &'k O) -> Flusher<'k, O> {
+        Flusher {
+            file: Mutex::new(None),
+            log,
+            is_behind: AtomicBool::new(false),
+            has_failed: AtomicBool::new(false),
+        }
+    }
+
     /// A flusher of the file at this path. Error: the system doesn't open it.
     pub fn open<R: Files<File = File>>(
         rt: &R,
@@ -25,11 +37,18 @@ impl<'k, O: Log> Flusher<'k, O> {
         log: &'k O,
     ) -> io::Result<Flusher<'k, O>> {
         Ok(Flusher {
-            file: fs::open(rt, path)?,
+            file: Mutex::new(Some(fs::open(rt, path)?)),
             log,
             is_behind: AtomicBool::new(true),
             has_failed: AtomicBool::new(false),
         })
+    }
+
+    /// Syncs this file from then on. The one before it is to be synced already.
+    pub(crate) fn follow<T: Wait>(&self, rt: &T, file: File) {
+        let mut held = self.file.lock(rt);
+        *held = Some(file);
+        self.note();
     }
 
     /// Notes that something was written.
@@ -42,19 +61,28 @@ impl<'k, O: Log> Flusher<'k, O> {
         self.has_failed.load(Ordering::SeqCst)
     }
 
+    /// Logs why a file can't be synced.
+    pub(crate) fn fail<D: Display>(&self, why: &D) {
+        tell_not_recorded(self.log, why);
+        self.has_failed.store(true, Ordering::SeqCst);
+    }
+
     /// Syncs the file if it is behind. False if this or an earlier sync has failed, which is logged.
-    pub fn flush(&self) -> bool {
+    pub fn flush<T: Wait>(&self, rt: &T) -> bool {
+        let held = self.file.lock(rt);
         if self.has_failed() {
             return false;
         }
+        let Some(file) = &*held else {
+            return true;
+        };
         if !self.is_behind.swap(false, Ordering::SeqCst) {
             return true;
         }
-        match self.file.sync_data() {
+        match file.sync_data() {
             Ok(()) => true,
             Err(error) => {
-                tell_not_recorded(self.log, &error);
-                self.has_failed.store(true, Ordering::SeqCst);
+                self.fail(&error);
                 false
             }
         }

@@ -5,13 +5,14 @@ ghost use Rattle.sb_durable.specs.Folders.{FollowOn};
 
 use crate::file::File;
 use crate::replay::PlayFault;
-use crate::segment::{PREFIX, RowError, check_row, number_in};
+use crate::segment::{PREFIX, RowError, SegmentError, check_row, number_in};
 use crate::sync_folder;
 use crate::system_file::{Syncing, SystemFile};
 use sqlite_disk::{Modelled, Start};
 use std::alloc::{AllocError, AllocFailed, Global};
 use std::fs::{Files, OpenOptions, TryLockError};
 use std::os::fd::AsRawFd;
+use std::io::ErrorKind;
 use std::{fs, io};
 use thiserror::Error;
 
@@ -25,8 +26,12 @@ pub enum FolderError {
     /// Another server has it.
     #[error("another server has it open")]
     Locked,
-    #[error("it is no folder")]
+    /// The path names a file, as a journal of an earlier version is.
+    #[error("it is no folder of segments; `starhost compact` writes an old journal anew as one")]
     NotAFolder,
+    /// It has no segment.
+    #[error("it has no journal")]
+    NotAJournal,
     /// The name begins as a segment's does, and isn't one.
     #[error("{0} is no name of a segment")]
     OtherName(String),
@@ -51,6 +56,16 @@ pub enum FolderError {
         record: u64,
         why: PlayFault,
     },
+}
+
+impl FolderError {
+    /// Why the segment with this number isn't taken.
+    pub(crate) fn of_segment(number: u64, why: SegmentError) -> FolderError {
+        FolderError::Refused {
+            number,
+            why: RowError::Segment(why),
+        }
+    }
 }
 
 impl From<io::Error> for FolderError {
@@ -80,13 +95,17 @@ pub struct Folder<'p> {
 }
 
 impl<'p> Folder<'p> {
-    /// Opens and locks the folder at a path. Error: the system's, Locked or NotAFolder.
+    /// Opens and locks the folder at a path, and makes it if nothing is there. Error: the system's, Locked or NotAFolder.
     pub fn open<R: Files<File = fs::File>>(
         rt: &R,
         path: &'p str,
         syncing: Syncing,
     ) -> Result<Folder<'p>, FolderError> {
-        let lock = fs::open(rt, path)?;
+        let lock = match fs::open(rt, path) {
+            Ok(lock) => lock,
+            Err(error) if error.kind() == ErrorKind::NotFound => made_folder(rt, path)?,
+            Err(error) => return Err(FolderError::System(error)),
+        };
         if !lock.metadata()?.is_dir() {
             return Err(FolderError::NotAFolder);
         }
@@ -140,18 +159,11 @@ impl<'p> Folder<'p> {
         ensures { IfOk result (λ file. IsTrue (may_be_used S.Start file)) }
     {
         let path = self.path_of(alloc, number)?;
-        let file = OpenOptions::new()
-            .read(true)
-            .write(true)
-            .open(rt, path.as_str())?;
-        if !file.metadata()?.is_file() {
-            return Err(FolderError::NotAFile(number));
-        }
-        self.settled(file)
+        self.settled(opened_segment(rt, path.as_str(), number)?)
     }
 
-    /// Makes the file of a segment, which isn't there yet, and syncs the folder, so that its name is durable before anything
-    /// is written to it. Error: the system's, or Memory.
+    /// Makes the file of a segment, and syncs the folder, so that its name is durable before anything is written to it. A
+    /// file of this name that is there is opened. Error: the system's, Memory or NotAFile.
     pub fn make_segment<R: Files<File = fs::File>, S: Start>(
         &self,
         rt: &R,
@@ -162,13 +174,57 @@ impl<'p> Folder<'p> {
         ensures { IfOk result (λ file. IsTrue (may_be_used S.Start file)) }
     {
         let path = self.path_of(alloc, number)?;
-        let file = OpenOptions::new()
+        let made = OpenOptions::new()
             .read(true)
             .write(true)
             .create_new(true)
-            .open(rt, path.as_str())?;
+            .open(rt, path.as_str());
+        let file = match made {
+            Ok(file) => file,
+            Err(error) if error.kind() == ErrorKind::AlreadyExists => {
+                opened_segment(rt, path.as_str(), number)?
+            }
+            Err(error) => return Err(FolderError::System(error)),
+        };
         sync_folder(rt, path.as_str())?;
         self.settled(file)
+    }
+
+    /// Removes the file of a segment, and syncs the folder. Error: the system's, or Memory; then it may be there.
+    pub(crate) fn remove_segment<R: Files<File = fs::File>>(
+        &self,
+        rt: &R,
+        alloc: Global,
+        number: u64,
+    ) -> Result<(), FolderError> {
+        let path = self.path_of(alloc, number)?;
+        fs::remove_file(rt, path.as_str())?;
+        sync_folder(rt, path.as_str())?;
+        Ok(())
+    }
+
+    /// Removes the files of all segments. Error: as of `numbers`, and the system's.
+    pub(crate) fn clear<R: Files<File = fs::File> + Alloc + Clone + Drop>(
+        &self,
+        rt: &R,
+        alloc: Global,
+    ) -> Result<(), FolderError> {
+        let numbers = self.numbers(rt, alloc)?;
+        for number in &numbers {
+            self.remove_segment(rt, alloc, *number)?;
+        }
+        Ok(())
+    }
+
+    /// Opens the file of a segment for its syncs. Error: the system's, or Memory.
+    pub(crate) fn reopen_segment<R: Files<File = fs::File>>(
+        &self,
+        rt: &R,
+        alloc: Global,
+        number: u64,
+    ) -> Result<fs::File, FolderError> {
+        let path = self.path_of(alloc, number)?;
+        Ok(fs::open(rt, path.as_str())?)
     }
 
     fn settled<S: Start>(&self, file: fs::File) -> Result<File<S>, FolderError>
@@ -186,5 +242,25 @@ impl<'p> Folder<'p> {
 
     fn path_of(&self, alloc: Global, number: u64) -> Result<String, FolderError> {
         Ok(format!(in alloc; "{}/journal.{number:06}", self.path)?)
+    }
+}
+
+/// Makes a folder at this path, durably, and opens it.
+fn made_folder<R: Files<File = fs::File>>(rt: &R, path: &str) -> io::Result<fs::File> {
+    fs::create_dir(rt, path)?;
+    sync_folder(rt, path)?;
+    fs::open(rt, path)
+}
+
+/// The file of the segment with this number, at this path.
+fn opened_segment<R: Files<File = fs::File>>(
+    rt: &R,
+    path: &str,
+    number: u64,
+) -> Result<fs::File, FolderError> {
+    let file = OpenOptions::new().read(true).write(true).open(rt, path)?;
+    match file.metadata()?.is_file() {
+        true => Ok(file),
+        false => Err(FolderError::NotAFile(number)),
     }
 }

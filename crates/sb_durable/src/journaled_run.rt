@@ -132,12 +132,17 @@ fn restarted_cell<T: Wait + Clock, O: Log, D: Disk>(
 }
 
 /// Syncs the journal at the end, if it has to be. False if that fails, which is logged.
-fn is_settled<T: Files<File = File>, O: Log>(rt: &T, path: &str, syncs: Syncs, log: &O) -> bool {
+fn is_settled<T: Wait + Files<File = File>, O: Log>(
+    rt: &T,
+    path: &str,
+    syncs: Syncs,
+    log: &O,
+) -> bool {
     let Syncs::Second = syncs else {
         return true;
     };
     match Flusher::open(rt, path, log) {
-        Ok(flusher) => flusher.flush(),
+        Ok(flusher) => flusher.flush(rt),
         Err(error) => {
             tell_not_recorded(log, &error);
             false

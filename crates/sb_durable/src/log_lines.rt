@@ -20,3 +20,19 @@ pub(crate) fn tell_played<O: Log>(log: &O, records: u64, bytes: u64) {
 pub fn tell_not_recorded<O: Log, D: Display>(log: &O, why: &D) {
     log.write(Severity::Error, &format_args!("journal: {why}"));
 }
+
+/// Logs that records go to the segment with this number from then on.
+pub(crate) fn tell_turned<O: Log>(log: &O, number: u64) {
+    log.write(
+        Severity::Info,
+        &format_args!("journal: segment {number} is begun"),
+    );
+}
+
+/// Logs why records don't go to a new segment with this number.
+pub(crate) fn tell_unturned<O: Log, D: Display>(log: &O, number: u64, why: &D) {
+    log.write(
+        Severity::Warning,
+        &format_args!("journal: segment {number} is not begun: {why}"),
+    );
+}

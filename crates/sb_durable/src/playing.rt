@@ -3,8 +3,8 @@ ghost use Rattle.std.specs.Prelude.{◌≡◌, ◌↔◌, ◌≤◌};
 
 use crate::journal_fault::JournalFault;
 use crate::log_lines::{tell_no_journal, tell_played};
-use crate::{File, Head, Journal, Played, Progress, Recorder, Syncing, Wary, open_path, play};
-use sb_host::{Renewing, Stub};
+use crate::{File, Head, Journal, Played, Progress, Syncing, Wary, open_path, play};
+use sb_host::Renewing;
 use sb_words::{Log, Syncs};
 use std::alloc::Global;
 use std::fs;
@@ -58,30 +58,6 @@ pub(crate) fn played_journal<H: Renewing, T: Wait + Clock + Files<File = fs::Fil
             tell_no_journal(log, path, &error);
             Err(JournalFault::CannotOpen)
         }
-    }
-}
-
-/// Opens the journal at this path and replays it on a host, whose tenants are recorded behind its records from then on.
-/// Gives the recorder, and the receipts of the sessions that were replayed. Error: CannotOpen, and the reason is logged.
-pub fn open_recorder<H: Renewing, T: Wait + Clock + Files<File = fs::File>, O: Log>(
-    rt: &T,
-    alloc: Global,
-    host: H,
-    path: &str,
-    syncs: Syncs,
-    head: Head,
-    log: &O,
-) -> Result<(Recorder<H, Journal<File<Wary>>>, Vec<Stub>), JournalFault> {
-    match played_journal(rt, alloc, host, path, syncing_of(syncs), head, log) {
-        Ok((journal, played)) => {
-            let Played {
-                stubs,
-                recorded,
-                ..
-            } = played;
-            Ok((Recorder::new(alloc, host, journal, recorded), stubs))
-        }
-        Err(why) => Err(why),
     }
 }
 

@@ -41,9 +41,9 @@ impl<H: Lending, B: BatchJournal> Recorder<H, B> {
         }
     }
 
-    /// Records all entries of these tenants' trails, and syncs the journal. A tenant has to be recorded before it is
-    /// renewed (else: Unrecorded, and nothing of it is written from then on). After an error other than that and want of
-    /// memory each further call fails and writes nothing.
+    /// Records all entries of these tenants' trails, and syncs the journal, which then goes on in a further file where its
+    /// file is full. A tenant has to be recorded before it is renewed (else: Unrecorded, and nothing of it is written from
+    /// then on). After an error other than that and want of memory each further call fails and writes nothing.
     pub fn keep<T: Wait>(&self, rt: &T, tenants: &[u32]) -> Result<(), JournalError>
         ensures { OnOk result (AreKept B.BatchJournal tenants.now) }
     {
@@ -51,14 +51,18 @@ impl<H: Lending, B: BatchJournal> Recorder<H, B> {
         let mut journal_writer = self.journal_writer.lock(rt);
         // one commit serves all that wait
         let callers = self.take(rt);
-        catch_up_both(
+        let kept = catch_up_both(
             rt,
             self.host,
             &mut journal_writer,
             &callers.tenants,
             place,
             tenants,
-        )
+        );
+        if kept.is_ok() {
+            journal_writer.journal.turn();
+        }
+        kept
     }
 
     /// Adds these tenants to those that wait. Returns their place in the list, or None without memory.
@@ -78,13 +82,6 @@ impl<H: Lending, B: BatchJournal> Recorder<H, B> {
             tenants: Vec::new(self.alloc),
         };
         mem::replace(&mut *callers, none)
-    }
-
-    /// Returns the file that is written.
-    pub fn close(self) -> B::Device {
-        let Recorder { journal_writer, .. } = self;
-        let JournalWriter { journal, .. } = journal_writer.into_inner();
-        journal.close()
     }
 }
 

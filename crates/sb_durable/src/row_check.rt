@@ -73,7 +73,7 @@ pub fn check_journal<R: Files<File = fs::File> + Alloc + Clone + Drop + Wait>(
 }
 
 /// Refuses a file that ends within a block, as part of a copy does.
-fn check_end<D: Disk + Drop>(reader: RowReader<D>) -> Result<(), FolderError> {
+pub(crate) fn check_end<D: Disk + Drop>(reader: RowReader<D>) -> Result<(), FolderError> {
     let mut last = reader.last;
     match last.ends_within() {
         Ok(false) => Ok(()),

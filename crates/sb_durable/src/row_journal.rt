@@ -2,11 +2,11 @@
 //! committed.
 ghost use Rattle.std.specs.Prelude.{◌≡◌, ◌⊎◌, ◌≤◌, ◌^◌, ◌++◌, ◌↔◌, [], ◌∷◌, List, ℕ, length, IfOk, IfErr, OnOk, OnErr, IsTrue};
 ghost use Rattle.sqlite_disk.specs.Disk.{Only};
-ghost use Rattle.sb_durable.specs.Head.{IsLeft, IsUnbegun};
+ghost use Rattle.sb_durable.specs.Head.{IsHead, IsLeft, IsUnbegun};
 ghost use Rattle.sb_durable.specs.Records.{Entry, entry_of};
 ghost use Rattle.sb_durable.specs.Row.{Filed, IsRow, HaveSettings, AreLeft, all_contents};
 ghost use Rattle.sb_durable.specs.RowJournal.{settings_of};
-ghost use Rattle.sb_durable.specs.Segment.{EndsWithin, HasAll, IsSpent, device_of, head_of};
+ghost use Rattle.sb_durable.specs.Segment.{EndsWithin, HasAll, IsSpent, device_of, end_of, head_of};
 
 use crate::record::record_bytes;
 use crate::recovery::MAX_CONTENT;
@@ -24,6 +24,7 @@ pub struct RowJournal<D: Disk> {
     newest: Segment<D>,
     waiting: Vec<u8>,
     ghost small: { length waiting.items ≤ 2 ^ 20 },
+    ghost settings_fit: { length (head_of newest).settings ≤ 4096 },
 }
 
 impl<D: Disk + Drop> Drop for RowJournal<D> {
@@ -45,6 +46,7 @@ impl<D: Disk> RowJournal<D> {
 
     /// A journal whose newest segment is this one. Nothing is staged.
     pub fn over(alloc: Global, newest: Segment<D>) -> RowJournal<D>
+        requires { length (head_of newest).settings ≤ 4096 }
         ensures has { (head : TheHead) (older : List Filed) (contents : List (List ℕ)) (batches : List (List Entry)) → HasAll D.Disk.seen D.Disk.may_leave newest contents
             → IsRow (older ++ filed newest contents ∷ []) → HaveSettings (settings_of head) (older ++ filed newest contents ∷ [])
             → contents_of batches ≡ all_contents (older ++ filed newest contents ∷ []) → HasRow D.Disk.seen D.Disk.may_leave result head older (all_of batches) [] }
@@ -61,6 +63,7 @@ impl<D: Disk> RowJournal<D> {
     /// A journal over the files of a folder, which were read up to the newest. What a crash may have left behind the last
     /// block is cut off. It may crash too. Error: the file ends within a block, or the segment's.
     pub fn open(alloc: Global, reader: RowReader<D>) -> Result<RowJournal<D>, (RowError, D)>
+        requires { IsHead (head_of (last_of reader)) }
         ensures ok { IfOk result (λ journal. IsTrue (D.Disk.is_clean (disk_of journal)) → (head : TheHead) (older : List Filed) (contents : List (List ℕ)) (batches : List (List Entry))
             → HasRead D.Disk.seen reader (settings_of head) older contents → contents_of batches ≡ all_contents (older ++ filed (last_of reader) contents ∷ [])
             → HasRow D.Disk.seen D.Disk.may_leave journal head older (all_of batches) []) }
@@ -157,8 +160,7 @@ impl<D: Disk> RowJournal<D> {
     /// Begins the next segment in a file that hasn't begun: batches go there from then on. Gives back the file of the one
     /// before. Error: batches go where they went, and the file is given back.
     pub fn turn(&mut self, device: D) -> Result<D, (SegmentError, D)>
-        requires usable { IsTrue (D.Disk.is_usable device) }
-        requires settings { length (head_of (newest_of self.old)).settings ≤ 4096 }
+        requires { IsTrue (D.Disk.is_usable device) }
         ensures ok { IfOk result (λ full. IsTrue (D.Disk.is_clean (disk_of self.new)) → (head : TheHead) (older : List Filed) (entries waiting : List Entry)
             → (has : HasRow D.Disk.seen D.Disk.may_leave self.old head older entries waiting)
             → HasRow D.Disk.seen D.Disk.may_leave self.new head (older ++ filed (newest_of self.old) has.contents ∷ []) entries waiting) }
@@ -185,11 +187,35 @@ impl<D: Disk> RowJournal<D> {
         }
     }
 
+    /// Lets nothing be committed any more.
+    pub fn give_up(&mut self)
+        ensures has { (head : TheHead) (older : List Filed) (entries waiting : List Entry) → HasRow D.Disk.seen D.Disk.may_leave self.old head older entries waiting
+            → HasRow D.Disk.seen D.Disk.may_leave self.new head older entries waiting }
+        ensures spent { IsSpent (newest_of self.new) }
+        ensures disk { disk_of self.new ≡ disk_of self.old }
+    {
+        self.newest.give_up();
+    }
+
     /// Whatever a crash leaves of the files as they are has the records.
     pub fn is_kept(&self)
         ensures { (head : TheHead) (older : List Filed) (entries waiting : List Entry) → HasRow D.Disk.seen D.Disk.may_leave self.now head older entries waiting
             → (files : List (List ℕ)) → AreLeft older files → (file : List ℕ) → D.Disk.may_leave (disk_of self.now) file → KeepRow head entries (files ++ file ∷ []) }
     {}
+
+    /// The number of the newest segment.
+    pub fn number(&self) -> u64
+        ensures { result ≡ (head_of (newest_of self.now)).number }
+    {
+        self.newest.number()
+    }
+
+    /// The bytes of the newest segment.
+    pub fn size(&self) -> usize
+        ensures { result ≡ (end_of (newest_of self.now)).at }
+    {
+        self.newest.size()
+    }
 
     /// How many more bytes can be staged.
     pub fn room(&self) -> usize

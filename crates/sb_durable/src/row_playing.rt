@@ -4,10 +4,13 @@ ghost use Rattle.sb_durable.specs.Records.{Entry};
 ghost use Rattle.sb_durable.specs.Replays.{LeavesPlayed};
 
 use crate::folder::{Folder, FolderError};
+use crate::folder_maker::FolderMaker;
 use crate::playing::{Playing, bound_of};
 use crate::record_player::Player;
-use crate::row_opening::{OpenedRow, open_row};
-use crate::{File, Head, Played, Progress, Recorder, RowJournal, Wary};
+use crate::row_check::check_end;
+use crate::row_opening::{FolderFiles, OpenedRow, open_row};
+use crate::row_reading::{WantedRow, read_row};
+use crate::{File, Head, Played, Progress, Recorder, RowJournal, SegmentedJournal, Wary};
 use sb_host::{Renewing, Stub};
 use sb_words::Log;
 use std::alloc::Global;
@@ -58,30 +61,80 @@ pub(crate) fn play_row<
     }
 }
 
-/// Opens the journal of a folder and replays it on a host, whose tenants are recorded behind its records from then on.
-/// Gives the recorder, and the receipts of the sessions that were replayed. Error: as of the opening and the replay.
-pub fn open_row_recorder<
-    H: Renewing,
+/// A recorder in the journal of a folder.
+pub type RowRecorder<'r, 'f, 'p, 'k, H, R, O> =
+    Recorder<H, SegmentedJournal<File<Wary>, FolderMaker<'r, 'f, 'p, 'k, R, O>>>;
+
+impl<
+    'r,
+    'f,
+    'p,
+    'k,
     R: Files<File = fs::File> + Alloc + Clone + Drop + Wait + Clock,
     O: Log,
+> FolderMaker<'r, 'f, 'p, 'k, R, O> {
+    /// Opens the journal of the folder and replays it on a host, whose tenants are recorded behind its records from then
+    /// on; a segment of so many bytes is full. Gives the recorder, and the receipts of the sessions that were replayed.
+    /// Error: as of the opening and the replay.
+    pub fn open_recorder<H: Renewing>(
+        self,
+        host: H,
+        head: Head,
+        limit: usize,
+    ) -> Result<(RowRecorder<'r, 'f, 'p, 'k, H, R, O>, Vec<Stub>), FolderError> {
+        let mut playing = Playing::new(self.rt, self.log);
+        match play_row(self.rt, self.alloc, host, self.folder, head, &mut playing) {
+            Ok((row, played)) => {
+                let Played {
+                    stubs,
+                    recorded,
+                    ..
+                } = played;
+                let alloc = self.alloc;
+                self.follow(row.number());
+                let journal = SegmentedJournal {
+                    row,
+                    maker: self,
+                    limit,
+                };
+                Ok((Recorder::new(alloc, host, journal, recorded), stubs))
+            }
+            Err(error) => Err(error),
+        }
+    }
+}
+
+/// Replays the segments of a folder on a new host, and ends the sessions that are open then. Nothing is changed. Error: the
+/// folder's, NotAJournal if it is empty, the first file that isn't taken as the next segment, or the first record that
+/// can't be played.
+pub(crate) fn replay_row<
+    H: Renewing,
+    R: Files<File = fs::File> + Alloc + Clone + Drop + Wait,
+    P: Progress,
 >(
     rt: &R,
     alloc: Global,
     host: H,
     folder: &Folder,
     head: Head,
-    log: &O,
-) -> Result<(Recorder<H, RowJournal<File<Wary>>>, Vec<Stub>), FolderError> {
-    let mut playing = Playing::new(rt, log);
-    match play_row(rt, alloc, host, folder, head, &mut playing) {
-        Ok((journal, played)) => {
-            let Played {
-                stubs,
-                recorded,
-                ..
-            } = played;
-            Ok((Recorder::new(alloc, host, journal, recorded), stubs))
-        }
-        Err(error) => Err(error),
+    progress: &mut P,
+) -> Result<(), FolderError> {
+    let Ok(mut player) = Player::new(alloc, host, bound_of(head)) else {
+        return Err(FolderError::Memory);
+    };
+    let numbers = folder.numbers(rt, alloc)?;
+    if numbers.is_empty() {
+        return Err(FolderError::NotAJournal);
+    }
+    let files = FolderFiles { rt, alloc, folder };
+    let wanted = WantedRow {
+        numbers: &numbers,
+        head,
+    };
+    let read = read_row(rt, alloc, &files, wanted, &mut player, progress)?;
+    check_end(read.reader)?;
+    match player.end_all(rt) {
+        Ok(_) => Ok(()),
+        Err(_) => Err(FolderError::Memory),
     }
 }

@@ -113,7 +113,7 @@ impl<'c, 'f, 'k, C: Chore, O: Log> Chore for SyncedChore<'c, 'f, 'k, C, O> {
     /// A sync that fails is logged, and the next commit fails.
     fn look<R: Wait>(&self, rt: &R, last: C::Seen) -> C::Seen {
         if let Some(flusher) = self.flusher {
-            let _or_it_is_logged = flusher.flush();
+            let _or_it_is_logged = flusher.flush(rt);
         }
         self.chore.look(rt, last)
     }

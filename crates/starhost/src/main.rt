@@ -2,7 +2,6 @@
 #![tactic(auto)]
 
 mod fault;
-mod folder_server;
 mod host_end;
 mod journaled_server;
 mod keys;

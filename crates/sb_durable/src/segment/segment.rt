@@ -121,6 +121,16 @@ impl<D: Disk> Segment<D> {
         Ok(())
     }
 
+    /// Lets nothing be appended to it any more.
+    pub fn give_up(&mut self)
+        ensures has { (contents : List (List ℕ)) → HasAll D.Disk.seen D.Disk.may_leave self.old contents → HasAll D.Disk.seen D.Disk.may_leave self.new contents }
+        ensures spent { IsSpent self.new }
+        ensures head { head_of self.new ≡ head_of self.old }
+        ensures disk { device_of self.new ≡ device_of self.old }
+    {
+        self.is_spent = true;
+    }
+
     /// Gives the file back.
     pub fn close(self) -> D
         ensures { result ≡ device_of self }
@@ -141,6 +151,13 @@ impl<D: Disk> Segment<D> {
         ensures { IsTrue result ↔ IsSpent self.now }
     {
         self.is_spent
+    }
+
+    /// Its bytes, up to the gate behind its last block.
+    pub fn size(&self) -> usize
+        ensures { result ≡ (end_of self.now).at }
+    {
+        self.end.at
     }
 
     /// The digest that binds the head and all contents.

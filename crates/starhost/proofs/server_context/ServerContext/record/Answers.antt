@@ -1,8 +1,8 @@
-use denote.Param.Send.{sendable}
+use denote.Param.Send.{arg_send, arg_sync, param_send, param_sync, sendable}
 use Rattle.std.proofs.Crossing.{crosses, frees}
-use Rattle.sb_durable.proofs.Sending.{journal_send, opened_send}
+use Rattle.sb_durable.proofs.Sending.{maker_send, opened_send, segments_send}
 use Rattle.starhost.proofs.server_context.ServerContext.record.Goals as goal
 
 -- the journal may go from one thread to another
-pub serve_recorded-requires-send-B : goal.serve_recorded-requires-send-B
-serve_recorded-requires-send-B g c = λ κs bounds. search (sendable, crosses, frees, journal_send, opened_send) depth 60
+pub serve_synced-requires-send-B : goal.serve_synced-requires-send-B
+serve_synced-requires-send-B g c = λ κs bounds. search (param_send, arg_send, param_sync, arg_sync, sendable, crosses, frees, segments_send, maker_send, opened_send) depth 60

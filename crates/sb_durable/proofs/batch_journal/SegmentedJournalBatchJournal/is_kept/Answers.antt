@@ -1,6 +1,6 @@
 use Rattle.std.proofs.Common.{List, ℕ, subst, sym}
 use Rattle.sb_durable.specs.RowJournal.{KeepRow}
-use Rattle.sb_durable.proofs.batch_journal.RowJournalBatchJournal.is_kept.Goals as goal
+use Rattle.sb_durable.proofs.batch_journal.SegmentedJournalBatchJournal.is_kept.Goals as goal
 
 pub returns : goal.returns
 returns g c base entries waiting has files left =
