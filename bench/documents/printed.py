@@ -215,9 +215,10 @@ class Player:
             self.need(told == "5 1 ok\n5 1 ok\n5 1 rows 1\n5 1 7\n5 1 ok\n", f"docs/OPERATING.md: {told}")
             self.shell(room, "starhost run --journal FILE < lines")
             self.need("5 1 7\n" in self.shell(room, "starhost run --journal FILE < more"), "docs/OPERATING.md: a run with a journal")
-            self.shell(room, "starhost run --tenants 64 --journal journal < lines")
-            compact = re.search(r"`(starhost compact [^`]*)`", page)[1]
-            self.shell(room, f"{compact} && mv journal.new journal")
+            self.shell(room, "starhost run --tenants 64 --journal old.journal < lines")
+            changed, shortened = re.findall(r"`(starhost compact [^`]*)`", page)
+            self.shell(room, f"mkdir journal && {changed}")
+            self.shell(room, f"{shortened} && rm -r journal && mv shorter journal")
             self.shell(room, upgrade)
             self.need(pathlib.Path(room, "tenants/5.lines").read_bytes() == pathlib.Path(room, "5.lines").read_bytes(), "docs/OPERATING.md: an upgrade")
             self.unit(room, next(text for kind, text in blocks_of("docs/OPERATING.md") if kind == "ini"))

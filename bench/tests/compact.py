@@ -4,8 +4,9 @@
     python3 -m bench.tests.compact [PROGRAM] [--calls N] [--seed N]
 
 PROGRAM is crates/starhost/out/starhost where no word is given. Clients make 64 tenants; the new journal makes each of them
-again, a second compaction gives the same bytes, and the old file stays as it was. Then what can't be: a new file that is
-there already, an old one that is damaged, missing, a folder, in use, or of other tenants or another bound, a full disk.
+again, a second compaction gives the same bytes, and the old one stays as it was. Then what can't be: a new one that is
+there already, an old one that is damaged, missing, empty, in use, or of other tenants or another bound, a full disk. A
+journal of an earlier version, which is a file, makes the same folder.
 Each of N calls on files (40) fails in turn, and then the program is killed in its place (refuse_disk.c, compiled by cc):
 there is a whole new journal or none under the name, and the old one is what it was. At last a tenant whose trail is
 nearly full takes lines again. The first thing that isn't as it is to be ends this with status 1.
@@ -13,13 +14,15 @@ nearly full takes lines again. The first thing that isn't as it is to be ends th
 
 import argparse
 import os
+import shutil
 import signal
 import subprocess
 import tempfile
 
 from bench.harness import BUILT, file_size, library, need
 from bench.tests.generated import Maker
-from bench.tests.journal import Client, journaled, records, states
+from bench.segments import bytes_of, records, segments, write_file, write_segment
+from bench.tests.journal import Client, journaled, states
 
 TENANTS = 64
 FULL = 1_048_576
@@ -47,24 +50,18 @@ def whole(compact, old, new):
     need(status == 0 and out == "" and "fault" not in log, f"a compaction: {status}, {out}, {log}")
 
 
-def bytes_of(path):
-    with open(path, "rb") as file:
-        return file.read()
+def files_of(path):
+    """What a journal has, a folder or a file."""
+    if os.path.isdir(path):
+        return {os.path.basename(name): bytes_of(name) for name in segments(path)}
+    return bytes_of(path)
 
 
-def write_journal(path, tenants, entries, bound=1000):
-    """A journal of these entries: tenant, session, line."""
-    contents, batch = [b"FILGJRN1" + tenants.to_bytes(4, "big") + bound.to_bytes(8, "big")], []
-    for tenant, session, line in entries:
-        batch.append(tenant.to_bytes(4, "big") + bytes([session]) + len(line).to_bytes(4, "big") + line)
-        if len(batch) == 1000:
-            contents.append(b"".join(batch))
-            batch = []
-    contents.append(b"".join(batch))
-    with open(path, "wb") as file:
-        for content in contents:
-            file.write(b"\x01" + len(content).to_bytes(4, "big") + content)
-        file.write(b"\x00")
+def remove(path):
+    if os.path.isdir(path):
+        shutil.rmtree(path)
+    else:
+        os.remove(path)
 
 
 def many_tenants(program, room, seed):
@@ -83,9 +80,9 @@ def many_tenants(program, room, seed):
 def is_short(compact, room, old):
     """The new journal makes the tenants again, and is as short as it can be."""
     new, newer = os.path.join(room, "new"), os.path.join(room, "newer")
-    before = bytes_of(old)
+    before = files_of(old)
     whole(compact, old, new)
-    need(bytes_of(old) == before, "the old journal is another one")
+    need(files_of(old) == before, "the old journal is another one")
     wanted = states(compact.program, old, room, tenants=TENANTS)
     need(len(wanted) == TENANTS - 4 and states(compact.program, new, room, tenants=TENANTS) == wanted, "the new journal makes other tenants")
     made = {}
@@ -96,12 +93,15 @@ def is_short(compact, room, old):
         need(made.get(tenant) == lines, f"tenant {tenant}: the new journal has {made.get(tenant)} in place of {lines}")
     need(made.keys() == wanted.keys(), "tenants that were never opened")
     whole(compact, new, newer)
-    need(bytes_of(newer) == bytes_of(new), "a second compaction gives another file")
+    need(files_of(newer) == files_of(new), "a second compaction gives another file")
     return len(records(old)), len(records(new))
 
 
 def cannot_be(compact, room, old):
-    new, before = os.path.join(room, "none"), bytes_of(old)
+    new, before = os.path.join(room, "none"), files_of(old)
+    file = os.path.join(room, "file")
+    write_file(file, TENANTS, [(0, 0, b"open"), (0, 0, b"create table t (a int)")])
+    data = bytes_of(file)
 
     def refuses(why, told, old=old, new=new, words=()):
         status, out, log = compact(old, new, *words)
@@ -110,31 +110,42 @@ def cannot_be(compact, room, old):
         need(not os.path.exists(new + ".new"), f"{why}: something is left beside")
 
     there = os.path.join(room, "there")
-    with open(there, "wb") as file:
-        file.write(b"mine")
-    refuses("a new file that is there", CANNOT_WRITE, new=there)
-    need(bytes_of(there) == b"mine", "a file that was there is another one")
+    with open(there, "wb") as mine:
+        mine.write(b"mine")
+    for form in (old, file):
+        refuses("a new file that is there", CANNOT_WRITE, old=form, new=there)
+        need(bytes_of(there) == b"mine", "a file that was there is another one")
+    taken = os.path.join(room, "taken")
+    shutil.copytree(old, taken)
+    refuses("a journal that is there", CANNOT_WRITE, new=taken)
+    need(files_of(taken) == before, "a journal that was there is another one")
     refuses("no folder for it", CANNOT_WRITE, new=os.path.join(room, "nowhere", "new"))
     damaged = os.path.join(room, "damaged")
-    for why, data in (
-        ("a length that no block has", before[:-1] + b"\x01\xff\xff\xff\xff" + before),
-        ("a line of no session", before[:-1] + b"\x01" + (14).to_bytes(4, "big") + b"\0\0\0\0\7\0\0\0\5begin\0"),
-        ("half a record", before[:-1] + b"\x01" + (8).to_bytes(4, "big") + b"\0\0\0\0\0\0\0\0\0"),
+    for why, begins in (
+        ("a length that no block has", data[:-1] + b"\x01\xff\xff\xff\xff" + data),
+        ("a line of no session", data[:-1] + b"\x01" + (14).to_bytes(4, "big") + b"\0\0\0\0\7\0\0\0\5begin\0"),
+        ("half a record", data[:-1] + b"\x01" + (8).to_bytes(4, "big") + b"\0\0\0\0\0\0\0\0\0"),
         ("no journal", b"\x01" + (5).to_bytes(4, "big") + b"hello\0"),
     ):
-        with open(damaged, "wb") as file:
-            file.write(data)
+        with open(damaged, "wb") as other:
+            other.write(begins)
         refuses(why, CANNOT_OPEN, old=damaged)
-        need(bytes_of(damaged) == data, f"{why}: the old journal is another one")
+        need(bytes_of(damaged) == begins, f"{why}: the old journal is another one")
+    rotten = os.path.join(room, "rotten")
+    shutil.copytree(old, rotten)
+    with open(segments(rotten)[0], "r+b") as other:
+        other.seek(-20, os.SEEK_END)
+        other.write(b"rot")
+    refuses("a segment that is damaged", CANNOT_OPEN, old=rotten)
     refuses("no old journal", CANNOT_OPEN, old=os.path.join(room, "missing"))
     need(not os.path.exists(os.path.join(room, "missing")), "a journal that was missing")
-    refuses("a folder", CANNOT_OPEN, old=room)
+    refuses("a folder without segments", CANNOT_OPEN, old=room)
     refuses("other tenants", CANNOT_OPEN, words=("--tenants", "63"))
     refuses("another bound", CANNOT_OPEN, words=("--tenants", "64", "--bound", "9"))
     server = journaled(compact.program, old, tenants=TENANTS)
     refuses("a journal in use", CANNOT_OPEN)
     need(server.end()[0] == 0, "a server beside a compaction")
-    need(not os.path.exists(new) and bytes_of(old) == before, "what can't be has left something")
+    need(not os.path.exists(new) and files_of(old) == before, "what can't be has left something")
 
 
 def full_disk(compact, room):
@@ -142,7 +153,7 @@ def full_disk(compact, room):
     old, new = os.path.join(room, "short"), os.path.join(room, "long")
     lines = [b"open", b"create table t (a int, b text)", b"begin"]
     lines += [f"insert into t values ({at}, 'x')".encode() for at in range(300)] + [b"update t set b = '" + b"y" * 250 + b"'", b"commit", b"end"]
-    write_journal(old, TENANTS, [(0, 0, line) for line in lines])
+    write_file(old, TENANTS, [(0, 0, line) for line in lines])
     status, out, log = compact(old, new, limit=40_000)
     need(status == 1 and out == "" and log.splitlines()[-1] == CANNOT_WRITE and len(log.splitlines()) > 1, f"a full disk: {status}, {log}")
     need(not os.path.exists(new) and not os.path.exists(new + ".new"), "a full disk: something is left")
@@ -152,7 +163,7 @@ def full_disk(compact, room):
 
 def fails_well(compact, room, old, calls):
     """Of calls that fail, and of a program that is killed in their place, there is a whole new journal or none."""
-    wanted, before = bytes_of(os.path.join(room, "new")), bytes_of(old)
+    wanted, before = files_of(os.path.join(room, "new")), files_of(old)
     counts = {"FAILED": 0, "KILLED": 0}
     for how in counts:
         for at in range(1, calls + 1):
@@ -164,20 +175,23 @@ def fails_well(compact, room, old, calls):
                 need(log.splitlines()[-1] in (CANNOT_OPEN, CANNOT_WRITE) and len(log.splitlines()) > 1, f"{how} {at}: {log}")
                 need(not os.path.exists(new + ".new"), f"{how} {at}: something is left beside")
             if status == 0 or os.path.exists(new):
-                need(bytes_of(new) == wanted, f"{how} {at}: half a journal")
-            need(records(old) == records_in(before, room), f"{how} {at}: the old journal is another one")
+                need(files_of(new) == wanted, f"{how} {at}: half a journal")
+            need(files_of(old) == before, f"{how} {at}: the old journal is another one")
             if not os.path.exists(new):
                 whole(compact, old, new)
-                need(bytes_of(new) == wanted, f"{how} {at}: another journal the next time")
-            os.remove(new)
+                need(files_of(new) == wanted, f"{how} {at}: another journal the next time")
+            remove(new)
     return counts
 
 
-def records_in(data, room):
-    path = os.path.join(room, "read")
-    with open(path, "wb") as file:
-        file.write(data)
-    return records(path)
+def changes_form(compact, room, old):
+    """A journal of an earlier version, which is a file, is written anew as a folder where one of its name is empty."""
+    file, new = os.path.join(room, "earlier"), os.path.join(room, "later")
+    entries = [(tenant, session, line.encode("latin-1")) for tenant, session, line in records(old)]
+    write_file(file, TENANTS, entries)
+    os.mkdir(new)
+    whole(compact, file, new)
+    need(files_of(new) == files_of(os.path.join(room, "new")), "a journal of an earlier version makes another one")
 
 
 def full_trail(compact, room):
@@ -185,10 +199,11 @@ def full_trail(compact, room):
     old, new = os.path.join(room, "full"), os.path.join(room, "emptied")
     table = b"create table t (a int)"
     lines = [b"open", table] + [b"begin", b"commit"] * ((FULL - 8) // 2) + [b"begin", b"insert into t values (7)", b"commit", b"end"]
-    write_journal(old, TENANTS, [(0, 0, line) for line in lines])
+    os.mkdir(old)
+    write_segment(os.path.join(old, "journal.000001"), 1, 0, TENANTS, [(0, 0, line) for line in lines])
 
-    def asked(file):
-        server = journaled(compact.program, file, "--sync", "never", "--renew", "never", tenants=TENANTS)
+    def asked(folder):
+        server = journaled(compact.program, folder, "--sync", "never", "--renew", "never", tenants=TENANTS)
         client = Client(server, 0, 0, ["begin", "commit"] * 10)
         client.told = []
         client.start()
@@ -217,6 +232,7 @@ def main():
         before, after = is_short(compact, room, old)
         print(f"{TENANTS} tenants: {before} records are {after}, and make the same")
         cannot_be(compact, room, old)
+        changes_form(compact, room, old)
         full_disk(compact, room)
         counts = fails_well(compact, room, old, asked.calls)
         print(f"of {asked.calls} calls on files, {counts['FAILED']} failed in turn, and {counts['KILLED']} killed it: a whole new journal or none")

@@ -4,22 +4,22 @@
     python3 -m bench.tests.journal [PROGRAM] [--kills N] [--cuts N] [--each] [--requests N] [--calls N] [--seed N]
 
 PROGRAM is crates/starhost/out/starhost where no word is given. Eight clients make transactions while the server is killed
-at some moment, N times (12), with each --sync in turn; then it is started with the same file. Each line that was answered
-has to be a record, in its order, up to the last one behind which its session had no transaction, and each tenant's dump has to be that of `run` over the records, with the sessions that
-were open ended. Then the file is cut at N places (60), or at each of its first 3,000 bytes (--each): a first part of the
-records is found. So it is where other bytes stand behind the last record. Other bytes behind a cut may look like a
-record; no more is refused then than the file. N requests for memory (60) are refused in turn, alone or with those behind
-them (refuse.c, compiled by cc): where a record lacks memory, replies wait. Each of N calls on files (40) fails in turn
-(refuse_disk.c), with --sync always and second: the server ends with a fault, and what it answered is there. With second
-there is a sync each second under load and one behind the last line, none of it while nothing comes, and one that fails
-ends the server before its next reply to a commit; a run makes one before it ends. A transaction of four lines waits for two
-syncs, those of its commit. Then what can't be: two servers on one file,
-another number of tenants, another bound, a full disk, and
-files that are no journals, which stay as they are. The first thing that isn't as it is to be ends this with status 1.
+at some moment, N times (12), with each --sync in turn; then it is started with the same folder. Each line that was answered
+has to be a record, in its order, up to the last one behind which its session had no transaction, and each tenant's dump has
+to be that of `run` over the records, with the sessions that were open ended. Then the newest segment is cut at N places
+(60), or at each of its first 3,000 bytes (--each): a first part of the records is found, or it is refused where it ends
+within its head or within a batch. Bytes that are written over it, and single bits that are flipped, are refused, or the
+tables are the same. A segment that is missing, doubled, or of another server is refused, and nothing in the folder is
+changed. N requests for memory (60) are refused in turn, alone or with those behind them (refuse.c, compiled by cc): where a
+record lacks memory, replies wait. Each of N calls on files (40) fails in turn (refuse_disk.c), with --sync always and
+second: the server ends with a fault, and what it answered is there. With second there is a sync each second under load and
+one behind the last line, none of it while nothing comes, and one that fails ends the server before its next reply to a
+commit; a run makes one before it ends. A transaction of four lines waits for two syncs, those of its commit. Then what can't
+be: two servers on one folder, another number of tenants, another bound, a full disk, and what is no folder of segments,
+which stays as it is. The first thing that isn't as it is to be ends this with status 1.
 """
 
 import argparse
-import gzip
 import os
 import random
 import shutil
@@ -29,16 +29,16 @@ import threading
 import time
 
 from bench.harness import BUILT, Server, connect, library, more_lines, need, run, tried
+from bench.segments import HEAD, blocks, bytes_of, newest, records, segments, write_segment
 from bench.tests.generated import Maker
 
 CLIENTS = 8
-HEAD = 25
 SYNCS = ("always", "second", "never")
 EACH = 3000
 
 
 def journaled(program, file, *words, tenants=16, limit=None, preloaded=None, **refused):
-    """A server with a journal at this path."""
+    """A server with a journal in this folder."""
     shape = ["--tenants", str(tenants), "--cells", "4", "--workers", "4", "--journal", file]
     return Server(program, *shape, *words, bytes_of_files=limit, library=preloaded, **refused)
 
@@ -88,26 +88,6 @@ class Client(threading.Thread):
         first = file.readline()
         lines = [first] + [file.readline() for _ in range(more_lines(first.decode()))]
         return first if all(line.endswith(b"\n") for line in lines) else None
-
-
-def records(path):
-    """The records of a journal: tenant, session, line."""
-    with open(path, "rb") as file:
-        data = file.read()
-    contents, place = [], 0
-    while place + 5 <= len(data) and data[place] == 1:
-        length = int.from_bytes(data[place + 1:place + 5], "big")
-        if place + 5 + length > len(data):
-            break
-        contents.append(data[place + 5:place + 5 + length])
-        place += 5 + length
-    found = []
-    for batch in contents[1:]:
-        while batch:
-            length = int.from_bytes(batch[5:9], "big")
-            found.append((int.from_bytes(batch[:4], "big"), batch[4], batch[9:9 + length].decode("latin-1")))
-            batch = batch[9 + length:]
-    return found
 
 
 def with_ends(found):
@@ -186,56 +166,71 @@ def survives_kills(program, room, kills, seed):
     return answered, len(records(file)), file
 
 
-def blocks(data):
-    """Where each block begins, and where the last one ends."""
-    places = [0]
-    while places[-1] + 5 <= len(data) and data[places[-1]] == 1:
-        end = places[-1] + 5 + int.from_bytes(data[places[-1] + 1:places[-1] + 5], "big")
-        if end > len(data):
-            break
-        places.append(end)
-    return places
-
-
 def crashed(data, dice):
-    """What a crash may leave of a file: its first blocks, and behind a shut gate a part of the next one, or other bytes."""
+    """What a crash may leave of a segment: its first blocks, and behind a shut gate a part of the next one, or other bytes."""
     places = blocks(data)
     at = dice.randrange(len(places))
     behind = data[places[at] + 1:places[at + 1]] if at + 1 < len(places) else b""
-    # before its head is there a file has no more than the head and the gates around it
-    most = 40 if at else HEAD
-    part = behind[:dice.randint(0, len(behind))] if dice.random() < 0.7 else dice.randbytes(dice.randrange(most))
-    return data[:places[at]] + dice.choice([b"", b"\x00" + part, b"\x01"])
+    part = behind[:dice.randint(0, len(behind))] if dice.random() < 0.7 else dice.randbytes(dice.randrange(40))
+    return data[:places[at]] + dice.choice([b"", b"\x00" + part])
 
 
-def survives_cuts(program, room, file, cuts, each, seed):
-    """A file as a crash leaves it, or that is cut at any byte, has a first part of its records."""
-    dice = random.Random(seed)
-    with open(file, "rb") as whole:
-        data = whole.read()
-    found, cut, refused = records(file), os.path.join(room, "cut"), 0
-    places = [0, 1, 4, 5, HEAD - 1, HEAD, HEAD + 1, HEAD + 7, len(data) - 1, len(data)]
+class Copied:
+    """A folder with a copy of a journal, whose newest segment is written over."""
+
+    def __init__(self, program, room, folder):
+        self.program, self.room, self.folder = program, room, os.path.join(room, "copied")
+        shutil.copytree(folder, self.folder)
+        self.file = newest(self.folder)
+        self.data = bytes_of(self.file)
+
+    def starts(self, data, may_refuse):
+        """The tables behind a start with such a newest segment; None where it is refused, and left as it is."""
+        with open(self.file, "wb") as file:
+            file.write(data)
+        found = states(self.program, self.folder, self.room, may_refuse=may_refuse)
+        need(found is not None or bytes_of(self.file) == data, "a segment that is refused is another one")
+        return found
+
+    def kept(self, data):
+        """The tables that the records of such a newest segment make."""
+        with open(self.file, "wb") as file:
+            file.write(data)
+        return states_of(self.program, records(self.folder), self.room)
+
+
+def survives_cuts(copied, cuts, each, seed):
+    """A segment as a crash leaves it has its records; one that is cut at any byte has a first part of them, or is refused."""
+    dice, data, refused = random.Random(seed), copied.data, 0
+    places = [0, 1, 7, 8, 9, HEAD - 1, HEAD, HEAD + 1, HEAD + 7, len(data) - 1, len(data)]
     places += range(EACH) if each else [dice.randrange(len(data)) for _ in range(cuts // 2)]
-    parts = [data[:place] for place in places]
-    parts += [crashed(data, dice) for _ in range(cuts // 2)] + [data + dice.randbytes(9)]
-    for at, part in enumerate(parts):
-        with open(cut, "wb") as file:
-            file.write(part)
-        kept = records(cut)
-        need(kept == found[:len(kept)], "a part of the file has other records")
-        need(states(program, cut, room) == states_of(program, kept, room), f"part {at} of {len(part)} bytes has another state")
-    written = [data[:dice.randrange(len(data))] + dice.randbytes(dice.choice([1, 9, 300, 5000])) for _ in range(cuts // 2)]
-    for at, part in enumerate(written):
-        with open(cut, "wb") as file:
-            file.write(part)
-        kept = records(cut)
-        is_open = len(part) > blocks(part)[-1] and part[blocks(part)[-1]] == 1
-        is_other = not part.startswith(data[:12])
-        has = states(program, cut, room, may_refuse=is_open or is_other or kept != found[:len(kept)])
+    parts = [(data[:place], place > 8 and (place < HEAD or place not in blocks(data))) for place in places]
+    parts += [(crashed(data, dice), False) for _ in range(cuts // 2)] + [(data + dice.randbytes(9), False)]
+    for part, ends_within in parts:
+        has = copied.starts(part, ends_within)
         refused += has is None
-        if has is not None and kept == found[:len(kept)]:
-            need(has == states_of(program, kept, room), f"part {at} with other bytes behind it has another state")
-    return len(parts), len(written), refused
+        need(has is None or has == copied.kept(part), f"a segment that is cut to {len(part)} bytes has another state")
+    return len(parts), refused
+
+
+def tells_rot(copied, cuts, seed):
+    """Bytes that are written over a segment, and single bits that are flipped: it is refused, or the tables are the same."""
+    dice, data, refused = random.Random(seed), copied.data, 0
+    whole = copied.kept(data)
+    for at in range(cuts):
+        place = dice.randrange(0 if at % 2 else HEAD, len(data))
+        if at % 2:
+            flipped = bytearray(data)
+            flipped[place] ^= 1 << dice.randrange(8)
+            has, wanted = copied.starts(bytes(flipped), True), whole
+        else:
+            has = copied.starts(data[:place] + dice.randbytes(dice.choice([1, 9, 300, 5000])), True)
+            wanted = copied.kept(data[:max(end for end in blocks(data) if end <= place)] + b"\0")
+        refused += has is None
+        need(has is None or has == wanted, f"other bytes at {place}: another state")
+    with open(copied.file, "wb") as file:
+        file.write(data)
+    return cuts, refused
 
 
 def fails_well(program, room, refuses, calls, sync):
@@ -424,26 +419,17 @@ def settles_a_run(program, room, refuses):
 
 def share_bounds_file(program, room):
     """With --tenant-memory a tenant writes no more than its share, also over several starts; others go on."""
-    file, share, long = os.path.join(room, "share"), 1 << 20, "select " + "x" * 4000
+    folder, share, long = os.path.join(room, "share"), 1 << 20, "select " + "x" * 4000
     for start in range(3):
-        server = journaled(program, file, "--sync", "never", "--tenant-memory", "1", "--renew", "never")
+        server = journaled(program, folder, "--sync", "never", "--tenant-memory", "1", "--renew", "never")
         greedy, other = Client(server, 0, start, [long] * 400), Client(server, 1, start, ["begin", "rollback"])
         greedy.run()
-        size = os.path.getsize(file)
+        size = sum(os.path.getsize(file) for file in segments(folder))
         need(size < share and greedy.answers == 401 - 400 * (start > 0), f"start {start}: {size} bytes, {greedy.answers} answers")
         other.run()
         need(len(other.answered) == 3, f"start {start}: beside a tenant that has taken its share: {other.answered}")
         need(server.end()[0] == 0, "a server with shares")
     return size
-
-
-def others(data):
-    """Files that are no journals: texts, other programs' files, and a journal whose first byte is another one."""
-    digest = "0" * 64
-    return [
-        b"dear diary\n", b"SQLite format 3\0" + bytes(4080), f"0 {digest}\n".encode(), b"create table t (a int)\n",
-        gzip.compress(data), bytes(4096), b"\0" + data[1:] + bytes(9), b"\x01\0\0\0\x14FILGJRX" + data[12:],
-    ]
 
 
 def fault(ended):
@@ -453,8 +439,8 @@ def fault(ended):
 
 
 def cannot_be(program, room):
-    file, other = os.path.join(room, "one"), os.path.join(room, "other")
-    server = journaled(program, file)
+    folder, other = os.path.join(room, "one"), os.path.join(room, "other")
+    server = journaled(program, folder)
     client = Client(server, 0, 0, ["create table t (a int)"])
     client.start()
     client.join()
@@ -464,27 +450,48 @@ def cannot_be(program, room):
         need(told == "fault: cannot open journal" and why in log, f"{path}, {words}, {shape}: {told}, {log}")
 
     for words, shape in ((("--bound", "7"), {}), ((), {"tenants": 15}), ((), {})):
-        refuses("another server has it open", file, *words, **shape)
+        refuses("another server has it open", folder, *words, **shape)
     need(server.end()[0] == 0, "a server beside whom others were refused")
-    refuses("it has another bound on considerations", file, "--bound", "7")
-    refuses("it has another number of tenants", file, tenants=15)
-    with open(file, "rb") as whole:
-        data = whole.read()
+    refuses("journal.000001: it has other settings", folder, "--bound", "7")
+    refuses("journal.000001: it has other settings", folder, tenants=15)
+    data = bytes_of(newest(folder))
+    os.mkdir(other)
+    write_segment(os.path.join(other, "next"), 2, 7, 16, [])
+    strange = bytes_of(os.path.join(other, "next"))
+
+    def refuses_files(why, **files):
+        """A folder with these files is refused, and stays as it is."""
+        tried = os.path.join(room, "tried")
+        shutil.rmtree(tried, ignore_errors=True)
+        os.mkdir(tried)
+        for name, begins in files.items():
+            with open(os.path.join(tried, name.replace("_", ".")), "wb") as written:
+                written.write(begins)
+        refuses(why, tried)
+        there = {name: bytes_of(os.path.join(tried, name)) for name in os.listdir(tried)}
+        need(there == {name.replace("_", "."): begins for name, begins in files.items()}, f"{why}, and there are other files")
+
     for why, begins in [
-        ("it is no journal of this version", data[:12] + b"2" + data[13:]),
-        ("it is damaged", data[:HEAD] + b"\x01\xff" + data),
-        *(("it is no journal", text) for text in others(data)),
+        ("it is no segment", data[:7] + b"3" + data[8:]),
+        ("it is no segment", b"dear diary, this is no journal\n"),
+        ("it is no segment", b"SQLite format 3\0" + bytes(4080)),
+        ("it is damaged", data[:40] + b"\x01" + data[41:]),
+        ("it ends within its head", data[:30]),
+        ("it ends within a block", data[:-1] + b"\xff"),
     ]:
-        with open(other, "wb") as written:
-            written.write(begins)
-        refuses(why, other)
-        with open(other, "rb") as left:
-            need(left.read() == begins, f"{why}, and it is another file")
-    refuses("Is a directory", room)
-    os.mkfifo(os.path.join(room, "pipe"))
-    refuses("it is no file", os.path.join(room, "pipe"))
+        refuses_files(f"journal.000001: {why}", journal_000001=begins)
+    refuses_files("journal.000002: it hasn't the next number", journal_000001=data, journal_000002=data)
+    refuses_files("journal.000002: it goes on behind another end", journal_000001=data, journal_000002=strange)
+    refuses_files("journal.000002: it hasn't the next number", journal_000002=data)
+    refuses_files("behind journal.000001 one is missing", journal_000001=data, journal_000003=data)
+    refuses_files("journal.1 is no name of a segment", journal_000001=data, journal_1=data)
+    file = os.path.join(room, "file")
+    with open(file, "wb") as written:
+        written.write(b"\x01\0\0\0\x14FILGJRN1" + bytes(13))
+    refuses("it is no folder of segments", file)
+    need(bytes_of(file).startswith(b"\x01\0\0\0\x14FILGJRN1"), "a journal of an earlier version is another file")
     refuses("No such file", room + "/none/one")
-    need(states(program, file, room)[0] == "create table t (a int)\n", "a file that others couldn't open")
+    need(states(program, folder, room)[0] == "create table t (a int)\n", "a folder that others couldn't open")
 
 
 def full_disk(program, room):
@@ -512,11 +519,13 @@ def main():
     asked = parser.parse_args()
     program = os.path.abspath(asked.program)
     with tempfile.TemporaryDirectory() as room:
-        answered, kept, file = survives_kills(program, room, asked.kills, asked.seed)
+        answered, kept, folder = survives_kills(program, room, asked.kills, asked.seed)
         print(f"{asked.kills} kills: {answered} lines were answered, and all that bind are there; {kept} records")
-        parts, others, refused = survives_cuts(program, room, file, asked.cuts, asked.each, asked.seed)
-        print(f"{parts} parts of a file: a first part of the records is found")
-        print(f"{others} that were written over behind it: a first part is found, or what they look like; {refused} were refused")
+        copied = Copied(program, room, folder)
+        parts, refused = survives_cuts(copied, asked.cuts, asked.each, asked.seed)
+        print(f"{parts} parts of a segment: a first part of the records is found, or it ends within a batch: {refused} were refused")
+        rotten, refused = tells_rot(copied, asked.cuts, asked.seed)
+        print(f"{rotten} that were written over or have a flipped bit: {refused} were refused, the others have the same tables")
         refuses = library("refuse_disk", room)
         waited = lacks_memory(program, room, asked.requests)
         print(f"{asked.requests} requests for memory are refused in turn: what was answered is there; {waited} times replies waited for a record's")
@@ -528,7 +537,7 @@ def main():
         trial(feels_late_sync, program, room, refuses)
         settles_a_run(program, room, refuses)
         cannot_be(program, room)
-        print(f"--tenant-memory 1: a greedy tenant's part of the file is {share_bounds_file(program, room)} bytes over three starts")
+        print(f"--tenant-memory 1: a greedy tenant's part of the journal is {share_bounds_file(program, room)} bytes over three starts")
         print(f"a full disk ends the server behind {full_disk(program, room)} answers, and they are there")
 
 

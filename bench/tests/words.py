@@ -225,7 +225,7 @@ LOGGED_FAULTS = [
     ("serve --port 0 --load {folder}/none", b"no folder"),
     ("serve --port 0 --load {folder}", b"cannot load 0"),
     ("serve --port 0 --dump-to {folder}/none", b"no folder"),
-    ("serve --port 0 --journal {folder}", b"cannot open journal"),
+    ("serve --port 0 --journal {folder}/journal", b"cannot open journal"),
     ("serve --port 0 --keys {folder}/none", b"no keys"),
     ("serve --port 0 --keys {folder}/bad.keys", b"bad keys 1"),
     ("compact {folder}/none {folder}/other", b"cannot open journal"),

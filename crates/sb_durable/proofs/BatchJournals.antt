@@ -1,15 +1,16 @@
 -- What a journal is after a commit, over one file and over the files of a folder.
 use Rattle.std.proofs.Common.{◌≡◌, ◌⊎◌, ℕ, List, [], ◌∷◌, ◌++◌, append-nil, refl, sym, subst, inl, inr}
 use Rattle.sqlite_disk.specs.declared.Disk.{Ghosts}
-use Rattle.sb_durable.specs.BatchJournals.{AreSpent, Base, HasFile, HasSegments, IsFileSpent, IsLater, KeepsFile, KeepsFiles}
+use Rattle.sb_durable.specs.BatchJournals.{Base, HasFile, IsFileSpent, IsLater, KeepsFile, KeepsFiles}
 use Rattle.sb_durable.specs.Journal.{Has, Keeps}
 use Rattle.sb_durable.specs.Records.{Entry}
 use Rattle.sb_durable.specs.Row.{Filed}
 use Rattle.sb_durable.specs.RowJournal.{KeepRow}
-use Rattle.sb_durable.specs.RowJournals.{HasRow}
+use Rattle.sb_durable.specs.RowJournals.{HasRow, newest_of}
+use Rattle.sb_durable.specs.Segment.{IsSpent}
 use Rattle.sb_durable.specs.declared.journal.Journal.{Journal}
 use Rattle.sb_durable.specs.declared.journal_header.Head.{Head}
-use Rattle.sb_durable.specs.declared.segmented_journal.SegmentedJournal.{SegmentedJournal}
+use Rattle.sb_durable.specs.declared.row_journal.RowJournal.{RowJournal}
 
 module _ {D : Type 0} {g : Ghosts D} (seen : D → List ℕ) (may_leave : D → List ℕ → Type 0) (old new : Journal D g) where
   -- nothing was done, or it is given up
@@ -18,11 +19,11 @@ module _ {D : Type 0} {g : Ghosts D} (seen : D → List ℕ) (may_leave : D → 
   still_file (inl still) = inl (λ base entries waiting has. (has.0, still base.head entries waiting has.1))
   still_file (inr spent) = inr spent
 
-module _ {D M : Type 0} {g : Ghosts D} (seen : D → List ℕ) (may_leave : D → List ℕ → Type 0) (old new : SegmentedJournal D M g) where
-  pub still_segments : ((head : Head) (older : List Filed) (entries waiting : List Entry) → HasRow seen may_leave old.row head older entries waiting → HasRow seen may_leave new.row head older entries waiting) ⊎ AreSpent new
-      → ((base : Base) (entries waiting : List Entry) → HasSegments seen may_leave old base entries waiting → HasSegments seen may_leave new base entries waiting) ⊎ AreSpent new
-  still_segments (inl still) = inl (λ base entries waiting has. still base.head base.older entries waiting has)
-  still_segments (inr spent) = inr spent
+module _ {D : Type 0} {g : Ghosts D} (seen : D → List ℕ) (may_leave : D → List ℕ → Type 0) (old new : RowJournal D g) where
+  pub still_row : ((head : Head) (older : List Filed) (entries waiting : List Entry) → HasRow seen may_leave old head older entries waiting → HasRow seen may_leave new head older entries waiting) ⊎ IsSpent (newest_of new)
+      → ((base : Base) (entries waiting : List Entry) → HasRow seen may_leave old base.head base.older entries waiting → HasRow seen may_leave new base.head base.older entries waiting) ⊎ IsSpent (newest_of new)
+  still_row (inl still) = inl (λ base entries waiting has. still base.head base.older entries waiting has)
+  still_row (inr spent) = inr spent
 
 -- it goes on where it was
 pub later_same : (base : Base) → IsLater base base

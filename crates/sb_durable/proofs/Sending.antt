@@ -15,6 +15,7 @@ use Rattle.sb_durable.specs.contracts.journal_writer.JournalWriter as JournalWri
 use Rattle.sb_durable.proofs.system_file.Syncing.TheSendSync as syncing
 use Rattle.sb_durable.specs.contracts.pending_entries.PendingEntries as PendingEntries
 use Rattle.sb_durable.specs.contracts.row_journal.RowJournal as RowJournal
+use Rattle.sb_durable.specs.contracts.segmented_journal.SegmentedJournal as SegmentedJournal
 use Rattle.sb_durable.specs.contracts.system_file.SystemFile as SystemFile
 
 pub callers_send : IsSend Callers.the_row
@@ -30,6 +31,11 @@ module _ (D : RattleType) (d : disk.Ghosts D.Denot) where
 
   pub row_journal_send : IsSend D → IsSend (RowJournal.the_row D d)
   row_journal_send file = search (sendable, crosses, frees, file) depth 40
+
+-- so may a journal in segments, where what makes their files may
+module _ (D M : RattleType) (d : disk.Ghosts D.Denot) where
+  pub segments_send : IsSend D → IsSend M → IsSend (SegmentedJournal.the_row D M d)
+  segments_send file maker = search (sendable, crosses, frees, row_journal_send, file, maker) depth 40
 
 -- the file of a path may be sent
 noted_send : IsSend PendingEntries.the_row

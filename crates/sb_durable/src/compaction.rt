@@ -91,7 +91,12 @@ struct Compaction<'c, H, T, O> {
     ghost few: { bound ≤ 1000 },
 }
 
-impl<'c, H: Renewing, T: Wait + Clock + Alloc + Clone + Drop + Files<File = File>, O: Log> Compaction<'c, H, T, O> {
+impl<
+    'c,
+    H: Renewing,
+    T: Wait + Clock + Alloc + Clone + Drop + Files<File = File>,
+    O: Log,
+> Compaction<'c, H, T, O> {
     /// Replays the journal at this path, a file or a folder of segments.
     fn play(&self, path: &str) -> Result<(), JournalFault> {
         match fs::metadata(self.rt, path) {

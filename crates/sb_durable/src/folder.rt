@@ -11,8 +11,8 @@ use crate::system_file::{Syncing, SystemFile};
 use sqlite_disk::{Modelled, Start};
 use std::alloc::{AllocError, AllocFailed, Global};
 use std::fs::{Files, OpenOptions, TryLockError};
-use std::os::fd::AsRawFd;
 use std::io::ErrorKind;
+use std::os::fd::AsRawFd;
 use std::{fs, io};
 use thiserror::Error;
 

@@ -62,8 +62,10 @@ pub(crate) fn play_row<
 }
 
 /// A recorder in the journal of a folder.
-pub type RowRecorder<'r, 'f, 'p, 'k, H, R, O> =
-    Recorder<H, SegmentedJournal<File<Wary>, FolderMaker<'r, 'f, 'p, 'k, R, O>>>;
+pub type RowRecorder<'r, 'f, 'p, 'k, H, R, O> = Recorder<
+    H,
+    SegmentedJournal<File<Wary>, FolderMaker<'r, 'f, 'p, 'k, R, O>>,
+>;
 
 impl<
     'r,
