@@ -5,12 +5,12 @@ ghost use Rattle.sb_host.specs.Opening.{AreNames};
 ghost use Rattle.sb_words.specs.Within.{AreRun};
 
 use crate::folder::{Folder, FolderError};
-use crate::folder_maker::FolderMaker;
 use crate::journal_fault::JournalFault;
 use crate::log_lines::{tell_no_journal, tell_not_recorded};
 use crate::playing::{Playing, played_journal};
 use crate::row_journal::FIRST_NUMBER;
 use crate::row_playing::replay_row;
+use crate::segmented_journal::OneSegment;
 use crate::{
     BatchJournal, File as JournalFile, Head, JournalError, Record, RowJournal, SegmentedJournal,
     Syncing, Wary, open_path, sync_folder,
@@ -26,9 +26,6 @@ use std::io;
 use std::marker::Brand;
 use std::rt::{Clock, Files};
 use std::sync::Wait;
-
-/// A segment of so many bytes is full.
-const SEGMENT_LIMIT: usize = 64 << 20;
 
 const OUT_OF_MEMORY: JournalFault = JournalFault::Stream(StreamError::NoMemory);
 
@@ -162,7 +159,7 @@ impl<
         }
     }
 
-    /// Writes a folder of segments to a temporary name, and renames it. An empty folder of the name is replaced.
+    /// Writes a folder with one segment to a temporary name, and renames it. An empty folder of the name is replaced.
     fn write_folder(&self, path: &str) -> Result<(), JournalFault> {
         let Ok(beside) = format!(in self.alloc; "{path}.new") else {
             return Err(OUT_OF_MEMORY);
@@ -184,7 +181,7 @@ impl<
         written
     }
 
-    /// Writes the segments of a folder, and renames it.
+    /// Writes the segment of a folder, and renames the folder.
     fn fill(&self, folder: &Folder, beside: &str, path: &str) -> Result<(), JournalFault> {
         let row = match self.begun(folder) {
             Ok(row) => row,
@@ -192,8 +189,8 @@ impl<
         };
         let mut journal = SegmentedJournal {
             row,
-            maker: FolderMaker::new(self.rt, self.alloc, folder, self.log, None),
-            limit: SEGMENT_LIMIT,
+            maker: OneSegment,
+            limit: usize::MAX,
         };
         match self.write_all(&mut journal) {
             Ok(()) => {}
@@ -331,7 +328,6 @@ fn write_line<B: BatchJournal>(
     match journal.stage(record) {
         Err(JournalError::Full) => {
             journal.commit()?;
-            journal.turn();
             journal.stage(record)
         }
         staged => staged,

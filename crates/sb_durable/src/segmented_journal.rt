@@ -57,3 +57,19 @@ impl<D: Disk + Drop, M: MakesSegments<D>> SegmentedJournal<D, M> {
         }
     }
 }
+
+/// Makes no further segment.
+#[derive(Clone, Copy, Debug)]
+pub(crate) struct OneSegment;
+
+impl<D: Disk> MakesSegments<D> for OneSegment {
+    fn make_file(&self, _number: u64) -> Option<D> {
+        None
+    }
+
+    fn hear_turned(&self, _number: u64) {}
+
+    fn hear_unturned(&self, _number: u64, _why: SegmentError) -> bool {
+        true
+    }
+}
