@@ -7,8 +7,11 @@ use Rattle.sqlite_disk.specs.declared.calls.Calls as calls
 use Rattle.sqlite_disk.specs.declared.start.Start as start
 use Rattle.sqlite_disk.specs.contracts.modelled.Modelled as Modelled
 use Rattle.sqlite_disk.specs.contracts.start.Wary as Wary
+use Rattle.sb_durable.proofs.journal.Journal.TheSendSync as journal
 use Rattle.sb_durable.proofs.journal_writer.JournalWriter.TheSendSync as journal_writer
 use Rattle.sb_durable.proofs.recorder.Callers.TheSendSync as callers
+use Rattle.sb_durable.proofs.row_journal.RowJournal.TheSendSync as row_journal
+use Rattle.sb_durable.proofs.segmented_journal.SegmentedJournal.TheSendSync as segmented_journal
 use Rattle.sb_durable.specs.contracts.recorder.Callers as Callers
 use Rattle.sb_durable.specs.contracts.journal.Journal as Journal
 use Rattle.sb_durable.specs.contracts.journal_writer.JournalWriter as JournalWriter
@@ -27,15 +30,15 @@ module _ (B : RattleType) where
 
 module _ (D : RattleType) (d : disk.Ghosts D.Denot) where
   pub journal_send : IsSend D → IsSend (Journal.the_row D d)
-  journal_send file = search (sendable, crosses, frees, file) depth 40
+  journal_send file = search (sendable, crosses, frees, journal.the_send, file) depth 40
 
   pub row_journal_send : IsSend D → IsSend (RowJournal.the_row D d)
-  row_journal_send file = search (sendable, crosses, frees, file) depth 40
+  row_journal_send file = search (sendable, crosses, frees, row_journal.the_send, file) depth 40
 
 -- so may a journal in segments, where what makes their files may
 module _ (D M : RattleType) (d : disk.Ghosts D.Denot) where
   pub segments_send : IsSend D → IsSend M → IsSend (SegmentedJournal.the_row D M d)
-  segments_send file maker = search (sendable, crosses, frees, row_journal_send, file, maker) depth 40
+  segments_send file maker = search (sendable, crosses, frees, segmented_journal.the_send, row_journal_send, file, maker) depth 40
 
 -- the file of a path may be sent
 noted_send : IsSend PendingEntries.the_row
