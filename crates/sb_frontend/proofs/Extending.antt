@@ -1,23 +1,19 @@
 -- The messages of the extended query, part by part.
-use Rattle.std.proofs.Common.{◌≡◌, ℕ, Bool, true, false, List, [], ◌∷◌, ◌++◌, Option, Some, None, is_some, Result, Ok, Err, refl, ap, sym, ◌∙◌, subst, append-nil, append_assoc, inl, inr}
+use Rattle.std.proofs.Common.{◌≡◌, ℕ, Bool, true, List, [], ◌∷◌, ◌++◌, Option, Some, None, is_some, Result, Ok, Err, refl, ap, sym, ◌∙◌, subst, append-nil, append_assoc, inl}
 use Rattle.std.specs.Prelude.{IfErr, MatchResult}
-use Rattle.sb_postgres.specs.declared.client_message.Target.{Target}
-use Rattle.sb_postgres.specs.Answers.{Answered, BindComplete, CloseComplete, NoData, ParameterDescription, ParseComplete}
-use Rattle.sb_postgres.specs.Messages.{Said}
+use Rattle.sb_postgres.specs.Answers.{Answered, BindComplete, NoData, ParameterDescription, ParseComplete}
 use Rattle.sb_frontend.specs.declared.denial.Denial.{Denial}
 use Rattle.sb_frontend.specs.declared.denial.Denial.TheVariants as d
 use Rattle.sb_frontend.specs.declared.phase.Phase.TheVariants as phase
 use Rattle.sb_frontend.specs.Columns.{without_columns}
-use Rattle.sb_frontend.specs.Conversations.{ExtendsBy}
 use Rattle.sb_frontend.specs.Denials.{Comes, state_of, text_of}
-use Rattle.sb_frontend.specs.Extended.{Binds, BindsMade, Closes, CommitsIn, DescribesPortal, DescribesStatement, EndsWith, Executes, Fails, GivesUpIn, Parses, PlaysPortal, Runs, Synchronizes, TellsColumns, TellsPrepared, left_of, phase_after, working}
-use Rattle.sb_frontend.specs.Names.{named}
+use Rattle.sb_frontend.specs.Extended.{BindsMade, CommitsIn, DescribesPortal, DescribesStatement, EndsWith, Executes, Fails, GivesUpIn, Parses, PlaysPortal, Runs, Synchronizes, TellsColumns, TellsPrepared, left_of, working}
 use Rattle.sb_frontend.specs.Outcomes.{outcome}
 use Rattle.sb_frontend.specs.Outputs.{Extends, FailsBy, Outgoing, Says, SaysSome, completed, error_of, written}
 use Rattle.sb_frontend.specs.Outputs as output
-use Rattle.sb_frontend.specs.Plays.{Commits, GivesUp, PlaysOne, Spot}
-use Rattle.sb_frontend.specs.Portals.{IsBound, IsPrepared, Portal, Prepared, Workbench, bound, closed, prepared, started}
-use Rattle.sb_frontend.specs.Standings.{Part, Standing, has_in, ready}
+use Rattle.sb_frontend.specs.Plays.{PlaysOne, Spot}
+use Rattle.sb_frontend.specs.Portals.{IsPrepared, Portal, Prepared, Workbench, bound, prepared, started}
+use Rattle.sb_frontend.specs.Standings.{Standing, ready}
 use Rattle.sb_frontend.specs.Talking.{Talking, Tells}
 use Rattle.sb_frontend.proofs.Conversing.{talking}
 use Rattle.sb_frontend.proofs.Playing.{Some_said, say-anyway}

@@ -1,5 +1,5 @@
 -- Things by name, in the lists that hold them.
-use Rattle.std.proofs.Common.{◌≡◌, ℕ, Bool, true, false, not, cond, List, [], ◌∷◌, ◌++◌, length, map, filter, Result, Ok, Err, Vec, Global, refl, ap, sym, ◌∙◌, inl, inr}
+use Rattle.std.proofs.Common.{◌≡◌, ℕ, Bool, true, false, not, List, [], ◌∷◌, length, filter, Ok, Err, Vec, Global, refl, ap, ◌∙◌, inl}
 use Rattle.std.specs.Str.{bytes_eq}
 use Rattle.sb_frontend.specs.declared.denial.Denial.{Denial}
 use Rattle.sb_frontend.specs.declared.denial.Denial.TheVariants.{TooMany}

@@ -7,7 +7,7 @@ use Rattle.sb_postgres.specs.declared.query.error.QueryError.TheVariants as erro
 use Rattle.sb_postgres.specs.declared.query.statement.Statement.{Statement}
 use Rattle.sb_postgres.specs.declared.query.statements.Statements.{Statements}
 use Rattle.sb_postgres.specs.declared.query.template.FillError.{FillError}
-use Rattle.sb_postgres.specs.Lines.{Lines, end, line, refused}
+use Rattle.sb_postgres.specs.Lines.{Lines, end, line}
 use Rattle.sb_postgres.specs.Statements.{HasLines, IsNext, Leaves, place_of, text_of}
 use Rattle.sb_postgres.specs.Templates.{Counts}
 use Rattle.sb_frontend.specs.declared.denial.Denial.{Denial}

@@ -1,11 +1,9 @@
 -- The text of rows is read row by row, and each row value by value.
-use Rattle.std.proofs.Common.{◌≡◌, ◌∙◌, ℕ, suc, zero, ◌+◌, ◌-◌, ◌<◌, ◌≤◌, ◌==◌, Bool, true, false, List, [], ◌∷◌, ◌++◌, length, map, get_or, take, drop, Option, Some, None, refl, sym, ap, subst, arith, add-one}
+use Rattle.std.proofs.Common.{◌≡◌, ◌∙◌, ℕ, suc, zero, ◌+◌, ◌-◌, ◌<◌, ◌≤◌, Bool, true, false, List, [], ◌∷◌, ◌++◌, length, map, get_or, take, drop, Option, Some, None, refl, sym, ap, subst, arith, add-one}
 use Rattle.std.proofs.Math.Seq.{take-suc, take-length, drop-cons}
 use Rattle.std.proofs.lemmas.Bool.{eqb-true}
 use Rattle.std.proofs.lemmas.List.{append_assoc, append-nil, drop-append-le, length-drop, map-append, take_all}
 use Rattle.sb_frontend.proofs.Saying.{written-append}
-use Rattle.std.specs.List.{AllByRecursion}
-use Rattle.sb_value.specs.Laws.{IsInRange}
 use Rattle.sb_value.specs.Literal.{value_text}
 use Rattle.sb_value.specs.declared.value.Value.{Value}
 use Rattle.sb_rows.specs.RowText.{row_text, rows_text}
@@ -15,7 +13,7 @@ use Rattle.sb_frontend.specs.Rows.{AreInRange, RowsAreInRange, RowsTold, data_ro
 use Rattle.sb_value.specs.declared.value.Value.TheVariants.{Int, Text}
 use Rattle.std.proofs.Common.{Vec, Global, pos, negsuc, ◌^◌}
 use Rattle.std.proofs.lemmas.Fmt.{decimal_is_IsNumeral}
-use Rattle.std.specs.Fmt.{decimal, signed_decimal}
+use Rattle.std.specs.Fmt.{decimal}
 use Rattle.sb_frontend.specs.Outputs.{written}
 use Rattle.sb_frontend.proofs.Cells.{IsApart, positive_below, value-cell}
 

@@ -1,11 +1,11 @@
 -- An error is told by one message, of which this holds.
-use Rattle.std.proofs.Common.{◌≡◌, ℕ, Bool, true, false, List, [], ◌∷◌, ◌++◌, codes, Option, Some, None, Result, Ok, Err, refl, sym, ap, subst, ◌∙◌}
+use Rattle.std.proofs.Common.{◌≡◌, ℕ, true, false, List, [], ◌∷◌, ◌++◌, Option, Some, Result, Ok, Err, refl, sym, ap, subst, ◌∙◌}
 use Rattle.std.proofs.lemmas.List.{append_assoc, append-nil}
 use Rattle.std.proofs.lemmas.Grind.{flat_map-append}
 use Rattle.std.specs.Prelude.{IfOk, MatchResult}
 use Rattle.std.specs.declared.alloc.AllocError.{AllocError}
 use Rattle.sb_postgres.specs.declared.told.sqlstate.SqlState.{SqlState}
-use Rattle.sb_postgres.specs.Answers.{Answered, RowDescription, SeenColumn, sent}
+use Rattle.sb_postgres.specs.Answers.{Answered, SeenColumn, sent}
 use Rattle.sb_value.specs.declared.value.ColumnType.{ColumnType}
 use Rattle.sb_frontend.specs.declared.describe.Heading.{Heading}
 use Rattle.sb_frontend.specs.declared.form.Form.{Form}

@@ -1,17 +1,15 @@
 -- A statement that makes no step is told by its kind.
-use Rattle.std.proofs.Common.{◌≡◌, ℕ, Bool, true, false, ◌⊎◌, List, [], ◌∷◌, length, Option, Some, None, arith, inl, inr, refl, sym, subst}
+use Rattle.std.proofs.Common.{◌≡◌, ℕ, Bool, ◌⊎◌, List, [], ◌∷◌, length, Option, Some, None, arith, inl, inr, refl, sym, subst}
 use Rattle.sb_value.specs.declared.value.ColumnType.TheVariants.{Text}
-use Rattle.sb_value.specs.declared.refusal.Verdict.{Verdict}
 use Rattle.sb_postgres.specs.declared.query.kind.StatementKind.{StatementKind}
 use Rattle.sb_postgres.specs.declared.query.kind.StatementKind.TheVariants as k
-use Rattle.sb_postgres.specs.declared.told.sqlstate.SqlState.TheVariants as state
 use Rattle.sb_postgres.specs.declared.told.tag.Effect.TheVariants.{Done}
 use Rattle.sb_postgres.specs.Tags.{tag_of}
 use Rattle.sb_frontend.specs.declared.form.Form.{Form}
 use Rattle.sb_frontend.specs.Columns.{one_value}
 use Rattle.sb_frontend.specs.Considerations.{Considered, notices}
-use Rattle.sb_frontend.specs.Outputs.{FailsBy, Outgoing, Says, SaysSome, Tells, TellsSome}
-use Rattle.sb_frontend.specs.Stepless.{TellsSetting, TellsWithout, one_found, shown_tag, unsupported_text, warnings, without_tag}
+use Rattle.sb_frontend.specs.Outputs.{Outgoing, Says, SaysSome, Tells, TellsSome}
+use Rattle.sb_frontend.specs.Stepless.{TellsSetting, TellsWithout, one_found, shown_tag, warnings, without_tag}
 use Rattle.sb_frontend.proofs.Saying.{says-nothing, says-tells, tells-some}
 
 pub no_warnings : (kind : StatementKind) (has own : Bool) (o : Outgoing) → (kind ≡ k.Begin → ⊥) → (kind ≡ k.Commit → ⊥) → (kind ≡ k.Rollback → ⊥) → Says (warnings kind has own) o o

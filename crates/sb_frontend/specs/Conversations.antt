@@ -1,5 +1,5 @@
 -- Promise: a conversation in messages: a client names a tenant, brings a key where one is asked for, and then makes queries.
-use Rattle.std.specs.Prelude.{◌≡◌, ◌⊎◌, ◌<◌, ◌==◌, ◌&&◌, if◌then◌else◌, ℕ, true, false, MatchBool, List, [], ◌∷◌, ◌++◌, length, map, codes, Option, Some, None}
+use Rattle.std.specs.Prelude.{◌≡◌, ◌⊎◌, ◌<◌, ◌==◌, ◌&&◌, if◌then◌else◌, ℕ, false, MatchBool, List, [], ◌∷◌, ◌++◌, length, map, codes, Option, Some, None}
 use Rattle.sb_postgres.specs.declared.told.settings.TheConstants.{REPORTED}
 use Rattle.sb_postgres.specs.declared.told.sqlstate.SqlState.{SqlState}
 use Rattle.sb_postgres.specs.declared.told.sqlstate.SqlState.TheVariants as state
@@ -9,7 +9,6 @@ use Rattle.sb_postgres.specs.Messages.{Said}
 use Rattle.sb_postgres.specs.Messages as messages
 use Rattle.sb_postgres.specs.Startup.{Started, SslRequest, GssEncRequest, CancelRequest, Startup}
 use Rattle.sb_postgres.specs.Statements.{HasLines}
-use Rattle.sb_frontend.specs.declared.phase.Phase.{Phase}
 use Rattle.sb_frontend.specs.declared.phase.Phase.TheVariants as phase
 use Rattle.sb_frontend.specs.declared.start.OpenError.{OpenError}
 use Rattle.sb_frontend.specs.Demands.{Demanded, End, Enter, Play, Synchronize, Nothing, Extend, Misplaced, demand_of}

@@ -1,5 +1,5 @@
 -- Promise: why a message of the extended query fails, and what a client is told of it.
-use Rattle.std.specs.Prelude.{◌≡◌, ◌⊎◌, ℕ, List, codes, Result, Ok, Err}
+use Rattle.std.specs.Prelude.{◌≡◌, ◌⊎◌, ℕ, List, codes, Result, Err}
 use Rattle.sb_postgres.specs.declared.query.error.QueryError.{QueryError}
 use Rattle.sb_postgres.specs.declared.query.error.QueryError.TheVariants as query
 use Rattle.sb_postgres.specs.declared.query.template.FillError.{FillError}

@@ -1,5 +1,5 @@
 -- Machine: what a step that may fail leaves.
-use Rattle.std.specs.Prelude.{ℕ, List, Option, Some, None, option_map, Result, Ok, Err, Vec}
+use Rattle.std.specs.Prelude.{ℕ, List, Option, option_map, Result, Ok, Err, Vec}
 use Rattle.std.specs.Global.{Global}
 use Rattle.sb_postgres.specs.declared.query.statement.Statement.{Statement}
 use Rattle.sb_frontend.specs.declared.denial.Denial.{Denial}

@@ -1,5 +1,5 @@
 -- Promise: prepared statements and portals, and what messages make of them.
-use Rattle.std.specs.Prelude.{◌≡◌, ℕ, Bool, true, false, not, ◌&&◌, ◌==◌, if◌then◌else◌, nat_lt, List, [], ◌∷◌, length, map, slice_get, slice_index, unwrap_or, Option, Some, None, Result, Ok, Err, Vec}
+use Rattle.std.specs.Prelude.{◌≡◌, ℕ, Bool, true, false, ◌==◌, if◌then◌else◌, List, [], length, map, slice_get, slice_index, unwrap_or, Option, Some, None, Result, Ok, Err, Vec}
 use Rattle.std.specs.Global.{Global}
 use Rattle.std.specs.List.{list_all, range_with_len}
 use Rattle.sb_value.specs.declared.value.ColumnType.{ColumnType}

@@ -1,5 +1,5 @@
 -- Promise: where a conversation stands.
-use Rattle.std.specs.Prelude.{ℕ, Bool, true, false, List, Option, Some, None}
+use Rattle.std.specs.Prelude.{Bool, true, false, List, Option, Some, None}
 use Rattle.sb_postgres.specs.declared.server_message.TransactionStatus.{TransactionStatus}
 use Rattle.sb_postgres.specs.declared.server_message.TransactionStatus.TheVariants.{Idle, Open}
 use Rattle.sb_postgres.specs.Answers.{Answered, ReadyForQuery}

@@ -1,10 +1,10 @@
 -- A piece stays one where parameters behind it become values: what is looked at behind it stays, or is a space.
-use Rattle.std.proofs.Common.{◌≡◌, ◌+◌, ◌==◌, ◌&&◌, ◌||◌, ℕ, suc, Bool, true, false, cond, List, [], ◌∷◌, ◌++◌, length, drop, refl, ap, sym, ◌∙◌, subst, arith}
+use Rattle.std.proofs.Common.{◌≡◌, ◌==◌, ◌&&◌, ℕ, Bool, true, false, List, [], ◌∷◌, ◌++◌, drop, refl, ap, sym, ◌∙◌, subst}
 use Rattle.std.proofs.lemmas.Bool.{or_parts, or_from, and_left}
 use Rattle.std.specs.List.{prefix_len}
 use Rattle.sb_postgres.specs.declared.query.piece.PieceKind.{PieceKind}
 use Rattle.sb_postgres.specs.declared.query.piece.PieceKind.TheVariants as k
-use Rattle.sb_postgres.specs.Bytes.{is_blank, is_letter, is_digit, is_word, is_in_line, is_quote, begins, begins_two, all}
+use Rattle.sb_postgres.specs.Bytes.{is_blank, is_letter, is_digit, is_word, is_in_line, is_quote, begins, begins_two}
 use Rattle.sb_postgres.specs.Pieces as p
 use Rattle.sb_postgres.specs.Pieces.{IsPiece, OpensDollarQuote, is_marked, is_u, marks_constant, begins_more}
 use Rattle.sb_postgres.proofs.Runs.{goes_on, halts}

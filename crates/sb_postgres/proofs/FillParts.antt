@@ -1,10 +1,10 @@
 -- A piece of a line in what is made of it.
-use Rattle.std.proofs.Common.{◌≡◌, ℕ, List, [], ◌∷◌, ◌++◌, Option, Some, Ok, refl, ap, sym, ◌∙◌}
+use Rattle.std.proofs.Common.{◌≡◌, ℕ, List, [], ◌∷◌, ◌++◌, Some, Ok, refl, ap, sym, ◌∙◌}
 use Rattle.std.proofs.lemmas.List.{append-nil}
 use Rattle.sb_value.specs.declared.value.Value.{Value}
 use Rattle.sb_postgres.specs.declared.query.piece.PieceKind.{PieceKind}
 use Rattle.sb_postgres.specs.declared.query.piece.PieceKind.TheVariants as k
-use Rattle.sb_postgres.specs.Templates.{Cut, text_of, spaced, value_of, valued, part}
+use Rattle.sb_postgres.specs.Templates.{text_of, spaced, value_of, valued, part}
 
 pub value_part : (values : List Value) (kind : PieceKind) (at : ℕ) (bytes : List ℕ) (v : Value) → kind ≡ k.Parameter → Some v ≡ value_of values bytes → part values kind at bytes ≡ Ok (spaced v)
 value_part values kind at bytes v is found = ap (λ (x : PieceKind). part values x at bytes) is ∙ ap (valued at) (sym found)

@@ -1,6 +1,5 @@
 -- Machine: a line with values, put together piece by piece.
 use Rattle.std.specs.Prelude.{◌≡◌, ℕ, List, ◌++◌, Result, Ok, Err}
-use Rattle.sb_value.specs.declared.value.Value.{Value}
 use Rattle.sb_postgres.specs.declared.query.template.FillError.{FillError}
 use Rattle.sb_postgres.specs.declared.query.template.FillError.TheVariants as error
 use Rattle.sb_postgres.specs.Templates.{Cut, text_of}

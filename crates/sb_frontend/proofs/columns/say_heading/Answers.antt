@@ -1,4 +1,3 @@
-use Rattle.std.proofs.Common.{[], ◌∷◌, List, ℕ, subst, ap, ◌∙◌}
 use Rattle.sb_frontend.proofs.Saying.{says-failed, says-headed}
 use Rattle.sb_frontend.proofs.columns.say_heading.Goals as goal
 
