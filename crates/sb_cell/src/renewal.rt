@@ -4,8 +4,7 @@ ghost use Rattle.sb_cell.specs.Renewal.{IsNotRenewed, Renews};
 ghost use Rattle.sb_cell.specs.Renewing.{IsMadeNext};
 
 use crate::cell::Cell;
-use sb_tenant::are_alike;
-use sb_tenant::Tenant;
+use sb_tenant::{Tenant, are_alike};
 use std::alloc::Global;
 
 /// Why a tenant isn't renewed.

@@ -7,8 +7,7 @@ ghost use Rattle.sb_tenant.specs.Tenant.{state};
 use crate::dumps::{DumpError, write};
 use crate::play::{SendFault, play};
 use crate::script::Script;
-use sb_tenant::is_busy;
-use sb_tenant::Tenant;
+use sb_tenant::{Tenant, is_busy};
 use sb_value::TenantId;
 use std::alloc::Global;
 

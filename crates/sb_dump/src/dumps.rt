@@ -11,8 +11,7 @@ use crate::play::{SendFault, only_tenant, play};
 use crate::rules::{write_inactive, write_rules};
 use crate::script::Script;
 use crate::tables::write_tables;
-use sb_tenant::are_alike;
-use sb_tenant::Tenant;
+use sb_tenant::{Tenant, are_alike};
 use std::alloc::{AllocError, Global};
 
 /// Why there is no dump of a tenant.
