@@ -21,11 +21,10 @@ import subprocess
 import sys
 import tempfile
 
-from bench.harness import TOP, is_unproved, program_of
+from bench.harness import TOP, blocks_of, is_unproved, program_of, sessions_of, transcript_of
 
 PAGES = ("README.md", "docs/FIRST_RULES.md", "docs/TOUR.md", "docs/RECIPES.md", "docs/COMMANDS.md", "docs/OPERATING.md", "docs/SEVERAL_HOSTS.md")
 BUILT = "crates/starhost/out/starhost"
-BLOCK = re.compile(r"^```(\w*)\n(.*?)^```$", re.M | re.S)
 
 # What shows a row of the table in COMMANDS, by the words that it begins with; two tables and a rule are there.
 ROWS = "open|create table t (a int, b text)|create table u (a int)"
@@ -52,11 +51,6 @@ LACKS = {
 }
 # shown by a line of its own, or by another one's refusal
 OTHERWISE = ("waiting for", "`select` outside")
-
-
-def blocks_of(page):
-    """The blocks of a page: what kind, and the text."""
-    return BLOCK.findall((TOP / page).read_text("utf-8"))
 
 
 def worked_session():
@@ -86,43 +80,36 @@ class Player:
         self.played |= {lines, wanted}
 
     def readme(self):
-        """A line has its reply behind it; one that begins with spaces goes on with the line before, or is its reply."""
         text = next(text for kind, text in blocks_of("README.md") if not kind)
-        rows = []
-        for line in text.splitlines():
-            if line.startswith(" "):
-                rows[-1] += ("   " if line.startswith(" " * 30) else " ") + line.strip()
-            else:
-                rows.append(line)
-        pairs = [re.fullmatch(r"(.*?) {3,}(\S.*)", row).groups() for row in rows]
-        wanted = [f"0 0 {one}\n" for _command, reply in pairs for one in re.split(r"[,:] ", reply)]
-        self.example = "".join(f"{command}\n" for command, _reply in pairs)
-        self.session("README.md", self.example, "".join(wanted))
+        rows = transcript_of(text)
+        self.example = "".join(f"{command}\n" for command, _replies in rows)
+        self.session("README.md", self.example, "".join(f"0 0 {line}\n" for _command, replies in rows for line in replies))
         self.played.add(text)
 
-    def sessions(self, page):
-        """Blocks of lines, each with the block of its replies behind it."""
-        texts = [text for _, text in blocks_of(page)]
-        for lines, wanted in zip(texts[::2], texts[1::2]):
-            self.session(page, lines, wanted)
+    def sessions(self, name):
+        """The sessions of a page, whose commands are files of examples/, too."""
+        for section, block, rows in sessions_of(f"docs/{name.upper()}.md"):
+            lines = "".join(f"0 0 {command}\n" for command, _replies in [("open", []), *rows])
+            told = "".join(f"0 0 {line}\n" for _command, replies in [("open", ["ok"]), *rows] for line in replies)
+            file = TOP / "examples" / name / f"{section}.lines"
+            self.need(file.is_file() and file.read_text("ascii") == lines, f"{file}: other lines than the page has")
+            self.session(f"docs/{name.upper()}.md: {section}", lines, told)
+            self.played.add(block)
 
     def tour(self):
-        texts = [text for kind, text in blocks_of("docs/TOUR.md") if not kind]
-        for lines, wanted in zip(texts[:-4:2], texts[1:-4:2]):
-            self.session("docs/TOUR.md", lines, wanted)
-        lines, script, further, end = texts[-4:]
+        script = next(text for kind, text in blocks_of("docs/TOUR.md") if not kind and not transcript_of(text))
+        written = re.search(r"`(starhost dump --tenant 0 [^`]*)`", (TOP / "docs/TOUR.md").read_text("utf-8"))[1]
+        moved, orders = (text for kind, text in blocks_of("docs/TOUR.md") if kind == "sh")
         with tempfile.TemporaryDirectory() as room:
-            pathlib.Path(room, "lines").write_text(lines)
-            pathlib.Path(room, "further").write_text(further)
-            self.shell(room, "crates/starhost/out/starhost dump --tenant 0 < lines > 0.lines")
+            self.shell(room, written.replace("examples/", f"{TOP}/examples/"))
             self.need(pathlib.Path(room, "0.lines").read_text() == script, "docs/TOUR.md: another script of the tenant")
-            moved, orders = (text for kind, text in blocks_of("docs/TOUR.md") if kind == "sh")
-            self.need(self.shell(room, moved).endswith(end), "docs/TOUR.md: the tenant that moved answers otherwise")
+            told = self.shell(room, moved)
+            self.need(told == "5 0 ok\n" * 3 + "5 0 ok 2\n5 0 done 0\n" + "5 0 ok\n" * 2, f"docs/TOUR.md: the tenant that moved: {told}")
         with socket.create_server(("127.0.0.1", 0)) as free:
             port = free.getsockname()[1]
         told = self.shell(TOP, orders.replace("7411", str(port)))
         self.need(told.split("\n", 1)[1].startswith((TOP / "examples/orders/orders.stdout").read_text("ascii")), f"docs/TOUR.md: {told}")
-        self.played |= {lines, script, further, end, moved, orders}
+        self.played |= {script, moved, orders}
 
     def lacks(self):
         page = (TOP / "docs/COMMANDS.md").read_text("utf-8")
@@ -306,9 +293,9 @@ def main():
     player = Player(program_of(sys.argv[1:]))
     player.readme()
     player.first_commands()
+    for name in ("first_rules", "tour", "recipes"):
+        player.sessions(name)
     player.tour()
-    for page in ("docs/FIRST_RULES.md", "docs/RECIPES.md"):
-        player.sessions(page)
     player.lacks()
     player.operating()
     player.several_hosts()

@@ -5,6 +5,7 @@ from bench.harness.faults import file_size, library
 from bench.harness.patience import PATIENCE, expect, fail, need, tried, until
 from bench.harness.program import BUILT, TOP, UNPROVED, is_unproved, program_of, run
 from bench.harness.server import Ended, Server, free_port
+from bench.harness.transcript import blocks_of, sessions_of, transcript_of
 
 __all__ = [
     "BUILT",
@@ -15,6 +16,7 @@ __all__ = [
     "Closed",
     "Ended",
     "Server",
+    "blocks_of",
     "connect",
     "expect",
     "fail",
@@ -29,6 +31,8 @@ __all__ = [
     "read_lines",
     "run",
     "say",
+    "sessions_of",
+    "transcript_of",
     "tried",
     "until",
 ]

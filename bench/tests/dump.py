@@ -21,7 +21,7 @@ import tempfile
 import time
 
 from bench.documents import commands
-from bench.harness import BUILT, TOP, fail, file_size, library, run
+from bench.harness import BUILT, TOP, blocks_of, fail, file_size, library, run, transcript_of
 from bench.tests.generated import Maker, of_tenant
 
 QUOTES = "''" * 255
@@ -110,14 +110,13 @@ def faults(program):
 
 def tour(program):
     """What docs/TOUR.md shows of a tenant that moves."""
-    with open(TOP / "docs/TOUR.md", encoding="utf-8") as file:
-        section = file.read().split("## A tenant moves")[1]
-    blocks = re.findall(r"^```(\w*)\n(.*?)^```", section, re.DOTALL | re.MULTILINE)
-    lines, script, further, end = (block.splitlines() for kind, block in blocks if kind == "")
+    lines = (TOP / "examples/tour/a_tenant_moves.lines").read_text("ascii").splitlines()
+    script = next(block for kind, block in blocks_of("docs/TOUR.md") if not kind and not transcript_of(block)).splitlines()
     if dumped(program, "the tour", lines, numbered=True) != script:
         fail("the script of the tour")
-    told = run(program, "run", ["5 0 open", *of_tenant(5, script), *further])[1].splitlines()
-    if told[-len(end):] != end:
+    further = ["begin", "update card set balance = 0 where id = 2", "commit", "begin", "select * from log"]
+    told = run(program, "run", of_tenant(5, ["open", *script, *further]))[1].splitlines()
+    if told[-6:] != of_tenant(5, ["ok 1", "done 1", "note true", "ok", "rows 1", "2,50,0"]):
         fail(f"the replies of the tour: {told}")
 
 

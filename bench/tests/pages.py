@@ -21,7 +21,7 @@ import subprocess
 import tempfile
 import zlib
 
-from bench.harness import BUILT, TOP, Server, expect, more_lines
+from bench.harness import BUILT, Server, expect, more_lines, sessions_of
 
 BROWSERS = ("chromium", "chromium-browser", "google-chrome")
 # how long something may take on a busy machine, in seconds
@@ -42,10 +42,8 @@ alter rule trim precedes tally"""
 
 def sessions():
     """The blocks of the tour that create rules, as lines of (tenant, session, command)."""
-    with open(TOP / "docs/TOUR.md", encoding="utf-8") as file:
-        blocks = re.findall(r"(?ms)^```\n(0 0 open\n.*?)^```\n\nanswers\n", file.read())
-    lines = [[line.split(" ", 2) for line in block.splitlines()] for block in blocks]
-    return [block for block in lines if any(command.startswith("create rule") for _, _, command in block)]
+    blocks = [["open", *(command for command, _replies in rows)] for _section, _block, rows in sessions_of("docs/TOUR.md")]
+    return [[["0", "0", command] for command in block] for block in blocks if any(command.startswith("create rule") for command in block)]
 
 
 def rules_behind(block):

@@ -9,14 +9,13 @@ tmux nothing is played, and that is said.
 """
 
 import os
-import re
 import shutil
 import subprocess
 import sys
 import tempfile
 import time
 
-from bench.harness import TOP, Server, program_of
+from bench.harness import TOP, Server, program_of, sessions_of
 
 
 
@@ -59,12 +58,8 @@ def start(program, port=0):
 
 def tour():
     """The sessions of the tour: their commands without numbers, and the rows that they end with."""
-    sessions = (TOP / "docs/TOUR.md").read_text().split("## A tenant moves")[0]
-    blocks = re.findall(r"```\n(.*?)```", sessions, re.DOTALL)
-    for commands, replies in zip(blocks[::2], blocks[1::2]):
-        lines = [line.split(" ", 2)[2] for line in commands.splitlines()]
-        rows = [line.split(" ", 2)[2] for line in replies.splitlines()]
-        yield [line for line in lines if line != "open"], rows[-1]
+    for _section, _block, rows in sessions_of("docs/TOUR.md"):
+        yield [command for command, _replies in rows], rows[-1][1][-1]
 
 
 def play(terminal, program):
