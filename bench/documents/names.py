@@ -16,7 +16,7 @@ from collections import defaultdict
 
 from bench.harness import TOP
 
-FOR_USERS = {"CLIENTS.md", "COMMANDS.md", "OPERATING.md", "SEVERAL_HOSTS.md", "TOUR.md"}
+FOR_USERS = {"CLIENTS.md", "COMMANDS.md", "FIRST_RULES.md", "OPERATING.md", "RECIPES.md", "SEVERAL_HOSTS.md", "TOUR.md"}
 # words of the language that the code is written in, of its toolchain, and of the documents themselves
 WORDS = {"requires", "ensures", "Promise", "Machine", "None", "Some", "Copy", "Send", "Sync", "match", "Debug", "PartialEq", "Lts"}
 WORDS |= {"stdin", "stdout", "cc", "callgrind"}
@@ -124,7 +124,7 @@ def crates_of(page, part, code):
     """Whose names a paragraph may use, or none where it may use any: in PROVED those of the crates that it names, in a crate's
     README its own, those of the crates below it, and those of other crates that the paragraph names."""
     if page.name == "PROVED.md":
-        return set(re.findall(r"\[(sb_\w+|starhost)\]", part))
+        return set(re.findall(r"\b(sb_\w+|starhost)\b", part))
     if page.parent.parent.name == "crates":
         return code.below[page.parent.name] | set(re.findall(r"\b(sb_\w+|starhost)\b", part))
     return set()
