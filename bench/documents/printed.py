@@ -61,6 +61,13 @@ def worked_session():
     return f"{lines}\n", told
 
 
+def readme_session():
+    """The lines of README's example, and the program's answer."""
+    rows = transcript_of(next(text for kind, text in blocks_of("README.md") if not kind))
+    lines = "".join(f"{command}\n" for command, _replies in rows)
+    return lines, "".join(f"0 0 {line}\n" for _command, replies in rows for line in replies)
+
+
 class Player:
     def __init__(self, program):
         self.program, self.faults, self.played = os.path.abspath(program), [], set()
@@ -80,11 +87,9 @@ class Player:
         self.played |= {lines, wanted}
 
     def readme(self):
-        text = next(text for kind, text in blocks_of("README.md") if not kind)
-        rows = transcript_of(text)
-        self.example = "".join(f"{command}\n" for command, _replies in rows)
-        self.session("README.md", self.example, "".join(f"0 0 {line}\n" for _command, replies in rows for line in replies))
-        self.played.add(text)
+        self.example, told = readme_session()
+        self.session("README.md", self.example, told)
+        self.played.add(next(text for kind, text in blocks_of("README.md") if not kind))
 
     def sessions(self, name):
         """The sessions of a page, whose commands are files of examples/, too."""
