@@ -9,7 +9,7 @@ use Rattle.sb_words.specs.Words.{AsksFor, Findings, HasMisplaced, HasUnfit, IsAs
 use Rattle.sb_words.specs.declared.words.Asked.{Asked}
 use Rattle.sb_words.specs.declared.words.Asked.TheVariants.{For, Help, Version, Refused, NotAllowed, Misplaced}
 use Rattle.sb_words.specs.declared.argument.Argument.{Argument}
-use Rattle.sb_words.specs.declared.argument.Argument.TheVariants.{Old, New, Tenant, Load, DumpTo, Into, Journal, Sync, Keys, Status, Tenants, Bound, Cells, Workers, Port, Connections, Idle, IdleTransaction, FirstTenant, TenantMemory, Log, Slow, Renew, UntilInputEnds}
+use Rattle.sb_words.specs.declared.argument.Argument.TheVariants.{Old, New, Tenant, Load, DumpTo, Into, Journal, Sync, Keys, Status, Tenants, Bound, Cells, Workers, Port, Connections, Idle, IdleTransaction, FirstTenant, TenantMemory, Segment, Log, Slow, Renew, UntilInputEnds}
 use Rattle.sb_words.specs.declared.argument.Unfit.{Unfit}
 use Rattle.sb_words.specs.declared.argument.Verb.{Verb}
 use Rattle.sb_words.specs.declared.argument.Verb.TheVariants.{Run}
@@ -71,12 +71,13 @@ all_allowed rows a Load = a.1.1.1.1.1.1.1.1.1.1.1.1.1.1.0
 all_allowed rows a DumpTo = a.1.1.1.1.1.1.1.1.1.1.1.1.1.1.1.0
 all_allowed rows a Journal = a.1.1.1.1.1.1.1.1.1.1.1.1.1.1.1.1.0
 all_allowed rows a Sync = a.1.1.1.1.1.1.1.1.1.1.1.1.1.1.1.1.1.0
-all_allowed rows a Renew = a.1.1.1.1.1.1.1.1.1.1.1.1.1.1.1.1.1.1.0
-all_allowed rows a Keys = a.1.1.1.1.1.1.1.1.1.1.1.1.1.1.1.1.1.1.1.0
-all_allowed rows a Status = a.1.1.1.1.1.1.1.1.1.1.1.1.1.1.1.1.1.1.1.1.0
-all_allowed rows a Log = a.1.1.1.1.1.1.1.1.1.1.1.1.1.1.1.1.1.1.1.1.1.0
-all_allowed rows a Slow = a.1.1.1.1.1.1.1.1.1.1.1.1.1.1.1.1.1.1.1.1.1.1.0
-all_allowed rows a UntilInputEnds = a.1.1.1.1.1.1.1.1.1.1.1.1.1.1.1.1.1.1.1.1.1.1.1.0
+all_allowed rows a Segment = a.1.1.1.1.1.1.1.1.1.1.1.1.1.1.1.1.1.1.0
+all_allowed rows a Renew = a.1.1.1.1.1.1.1.1.1.1.1.1.1.1.1.1.1.1.1.0
+all_allowed rows a Keys = a.1.1.1.1.1.1.1.1.1.1.1.1.1.1.1.1.1.1.1.1.0
+all_allowed rows a Status = a.1.1.1.1.1.1.1.1.1.1.1.1.1.1.1.1.1.1.1.1.1.0
+all_allowed rows a Log = a.1.1.1.1.1.1.1.1.1.1.1.1.1.1.1.1.1.1.1.1.1.1.0
+all_allowed rows a Slow = a.1.1.1.1.1.1.1.1.1.1.1.1.1.1.1.1.1.1.1.1.1.1.1.0
+all_allowed rows a UntilInputEnds = a.1.1.1.1.1.1.1.1.1.1.1.1.1.1.1.1.1.1.1.1.1.1.1.1.0
 
 pub first_of_all : (rows : List Row) (r : Option Unfit) → MatchOption r (AllFit rows parts) (λ u. IsFirstOf rows u parts)
     → MatchOption r (AreAllowed rows) (IsFirstUnfit rows)

@@ -3,7 +3,7 @@ use Rattle.std.specs.Prelude.{ℕ, List, [], ◌∷◌, Option, Some, None, code
 use Rattle.clap.specs.Words.{Text}
 use Rattle.sb_words.specs.Meanings.{meaning_of}
 use Rattle.sb_words.specs.declared.argument.Argument.{Argument}
-use Rattle.sb_words.specs.declared.argument.Argument.TheVariants.{Old, New, Tenant, Load, DumpTo, Into, Journal, Sync, Keys, Status, Tenants, Bound, Cells, Workers, Port, Connections, Idle, IdleTransaction, FirstTenant, TenantMemory, Log, Slow, Renew, UntilInputEnds}
+use Rattle.sb_words.specs.declared.argument.Argument.TheVariants.{Old, New, Tenant, Load, DumpTo, Into, Journal, Sync, Keys, Status, Tenants, Bound, Cells, Workers, Port, Connections, Idle, IdleTransaction, FirstTenant, TenantMemory, Segment, Log, Slow, Renew, UntilInputEnds}
 use Rattle.sb_words.specs.declared.argument.NumberRange.{NumberRange}
 use Rattle.sb_words.specs.declared.argument.Verb.{Verb}
 use Rattle.sb_words.specs.declared.argument.Verb.TheVariants.{Run, Serve, Replay, Parse, Dump, Compact, Key}
@@ -28,13 +28,13 @@ verb_of word = meaning_of word (map (λ v. (word_of v, v)) verbs)
 -- files first, then options, in the order in which they are looked at
 abbrev pub parts : List Argument
 parts = Old ∷ New ∷ Tenants ∷ Bound ∷ Tenant ∷ Into ∷ Cells ∷ Workers ∷ Port ∷ Connections ∷ Idle ∷ IdleTransaction ∷ FirstTenant ∷ TenantMemory ∷ Load ∷ DumpTo
-    ∷ Journal ∷ Sync ∷ Renew ∷ Keys ∷ Status ∷ Log ∷ Slow ∷ UntilInputEnds ∷ []
+    ∷ Journal ∷ Sync ∷ Segment ∷ Renew ∷ Keys ∷ Status ∷ Log ∷ Slow ∷ UntilInputEnds ∷ []
 
 -- the parts that a command has
 abbrev pub parts_of : Verb → List Argument
 parts_of Run = Tenants ∷ Bound ∷ Load ∷ Journal ∷ Sync ∷ []
 parts_of Serve =
-    Tenants ∷ Bound ∷ Cells ∷ Workers ∷ Port ∷ Connections ∷ Idle ∷ IdleTransaction ∷ FirstTenant ∷ TenantMemory ∷ Load ∷ DumpTo ∷ Journal ∷ Sync ∷ Renew ∷ Keys
+    Tenants ∷ Bound ∷ Cells ∷ Workers ∷ Port ∷ Connections ∷ Idle ∷ IdleTransaction ∷ FirstTenant ∷ TenantMemory ∷ Load ∷ DumpTo ∷ Journal ∷ Sync ∷ Segment ∷ Renew ∷ Keys
     ∷ Status ∷ Log ∷ Slow ∷ UntilInputEnds ∷ []
 parts_of Replay = Tenants ∷ Bound ∷ Cells ∷ Workers ∷ []
 parts_of Parse = []
@@ -63,6 +63,7 @@ name_of Idle = codes "idle"
 name_of IdleTransaction = codes "idle-transaction"
 name_of FirstTenant = codes "first-tenant"
 name_of TenantMemory = codes "tenant-memory"
+name_of Segment = codes "segment"
 name_of Log = codes "log"
 name_of Slow = codes "slow"
 name_of Renew = codes "renew"
@@ -96,5 +97,6 @@ range_of Idle = idle_seconds
 range_of IdleTransaction = idle_seconds
 range_of FirstTenant = range 0 999999000 0
 range_of TenantMemory = range 0 1048576 0
+range_of Segment = range 1 65536 64
 range_of Slow = range 0 86400000 1000
 range_of other = None

@@ -55,13 +55,14 @@ abbrev pub LacksNumber : Option NumberRange → Text → Type 0
 LacksNumber None text = ⊥
 LacksNumber (Some range) text = IsNumber range text → ⊥
 
--- there is no such word, or it doesn't go with what else is given: one tenant with all, files with a journal, a sync without one
+-- there is no such word, or it doesn't go with what else is given: one tenant with all, files with a journal, a sync or a segment without one
 abbrev pub LacksWord : List Row → Argument → Text → Type 0
 LacksWord rows part.Log word = severity_of word ≡ None
 LacksWord rows part.Renew word = renew_policy_of word ≡ None
 LacksWord rows part.Into path = text_at rows part.Tenant ≢ None
 LacksWord rows part.Journal file = text_at rows part.Load ≢ None
 LacksWord rows part.Sync word = (syncs_of word ≡ None) ⊎ (text_at rows part.Journal ≡ None)
+LacksWord rows part.Segment text = text_at rows part.Journal ≡ None
 LacksWord rows p text = ⊥
 
 -- the text isn't what the part has to be
@@ -137,6 +138,7 @@ serving_in rows = record {
   idle_transaction = number_in rows part.IdleTransaction;
   first_tenant = number_in rows part.FirstTenant;
   tenant_memory = number_in rows part.TenantMemory;
+  segment = number_in rows part.Segment;
   log = severity_in (text_at rows part.Log);
   until_input_ends = is_some (text_at rows part.UntilInputEnds);
   status = status_in rows;

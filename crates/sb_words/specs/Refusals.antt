@@ -3,7 +3,7 @@ use Rattle.std.specs.Prelude.{ℕ, List, ◌++◌, codes}
 use Rattle.clap.specs.Words.{Text}
 use Rattle.sb_words.specs.Arguments.{name_of}
 use Rattle.sb_words.specs.declared.argument.Argument.{Argument}
-use Rattle.sb_words.specs.declared.argument.Argument.TheVariants.{Old, New, Tenant, Into, Journal, Sync, Status, Tenants, Bound, Cells, Workers, Port, Connections, Idle, IdleTransaction, FirstTenant, TenantMemory, Log, Slow, Renew, UntilInputEnds}
+use Rattle.sb_words.specs.declared.argument.Argument.TheVariants.{Old, New, Tenant, Into, Journal, Sync, Status, Tenants, Bound, Cells, Workers, Port, Connections, Idle, IdleTransaction, FirstTenant, TenantMemory, Segment, Log, Slow, Renew, UntilInputEnds}
 use Rattle.sb_words.specs.declared.argument.Unfit.{Unfit}
 
 -- a part, with the text that stands for it
@@ -27,7 +27,8 @@ allowed_for Idle = codes "0 to 86400"
 allowed_for IdleTransaction = codes "0 to 86400"
 allowed_for FirstTenant = codes "0 to 999999000"
 allowed_for TenantMemory = codes "0 to 1048576"
-allowed_for Journal = codes "a file, without --load"
+allowed_for Segment = codes "1 to 65536, with --journal"
+allowed_for Journal = codes "a path, without --load"
 allowed_for Sync = codes "always, second or never, with --journal"
 allowed_for Renew = codes "auto or never"
 allowed_for Status = codes "0 to 65535"

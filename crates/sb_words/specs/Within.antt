@@ -21,7 +21,7 @@ AreHost h = AreRun h.run × (1 ≤ h.cells) × (h.cells ≤ 16) × (1 ≤ h.work
 abbrev pub AreServer : ServerOptions → Type 0
 AreServer s =
     AreHost s.hosting × (s.port ≤ 65535) × (s.connections ≤ 1000000) × (s.idle ≤ 86400) × (s.idle_transaction ≤ 86400)
-    × (s.first_tenant ≤ 999999000) × (s.tenant_memory ≤ 1048576) × IfSome s.status (λ port. port ≤ 65535) × (s.slow ≤ 86400000)
+    × (s.first_tenant ≤ 999999000) × (s.tenant_memory ≤ 1048576) × (1 ≤ s.segment) × (s.segment ≤ 65536) × IfSome s.status (λ port. port ≤ 65535) × (s.slow ≤ 86400000)
 
 abbrev pub IsWithin : Invocation → Type 0
 IsWithin (invocation.Run words) = AreRun words.run

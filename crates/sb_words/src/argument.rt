@@ -37,6 +37,7 @@ pub enum Argument {
     IdleTransaction,
     FirstTenant,
     TenantMemory,
+    Segment,
     Log,
     Slow,
     Renew,
@@ -55,7 +56,7 @@ pub(crate) const COMMANDS: [Verb; 7] = [
 ];
 
 /// All parts, in the order in which they are looked at.
-pub(crate) const PARTS: [Argument; 24] = [
+pub(crate) const PARTS: [Argument; 25] = [
     Argument::Old,
     Argument::New,
     Argument::Tenants,
@@ -74,6 +75,7 @@ pub(crate) const PARTS: [Argument; 24] = [
     Argument::DumpTo,
     Argument::Journal,
     Argument::Sync,
+    Argument::Segment,
     Argument::Renew,
     Argument::Keys,
     Argument::Status,
@@ -92,7 +94,7 @@ pub(crate) const RUN_PARTS: [Argument; 5] = [
 ];
 
 /// The parts of `serve`.
-pub(crate) const SERVE_PARTS: [Argument; 20] = [
+pub(crate) const SERVE_PARTS: [Argument; 21] = [
     Argument::Tenants,
     Argument::Bound,
     Argument::Cells,
@@ -107,6 +109,7 @@ pub(crate) const SERVE_PARTS: [Argument; 20] = [
     Argument::DumpTo,
     Argument::Journal,
     Argument::Sync,
+    Argument::Segment,
     Argument::Renew,
     Argument::Keys,
     Argument::Status,
@@ -190,6 +193,7 @@ impl Argument {
             Argument::IdleTransaction => "idle-transaction",
             Argument::FirstTenant => "first-tenant",
             Argument::TenantMemory => "tenant-memory",
+            Argument::Segment => "segment",
             Argument::Log => "log",
             Argument::Slow => "slow",
             Argument::Renew => "renew",
@@ -215,6 +219,7 @@ impl Argument {
             Argument::IdleTransaction => numbers(0, 86_400, 0),
             Argument::FirstTenant => numbers(0, 999_999_000, 0),
             Argument::TenantMemory => numbers(0, 1_048_576, 0),
+            Argument::Segment => numbers(1, 65_536, 64),
             Argument::Slow => numbers(0, 86_400_000, 1_000),
             _ => None,
         }

@@ -100,6 +100,7 @@ fn lacks_word(matches: &ArgMatches<'_>, part: Argument, text: &str) -> bool
         Argument::Journal => text_at(matches, Argument::Load).is_some(),
         Argument::Sync => meaning_of(text, &SYNCS).is_none()
             || text_at(matches, Argument::Journal).is_none(),
+        Argument::Segment => text_at(matches, Argument::Journal).is_none(),
         _ => false,
     }
 }

@@ -82,6 +82,9 @@ impl Argument {
             Argument::TenantMemory => {
                 "What a tenant's trail and open transactions may take:\nat most 1048576; 0 is as much as there is [default: 0]"
             }
+            Argument::Segment => {
+                "The journal goes on in a new file where one has so much:\nat most 65536 [default: 64]"
+            }
             Argument::Load => {
                 "Play the lines of the files FOLDER/N.lines first, each\nas the first session of tenant N; a tenant without a\nfile is empty"
             }
@@ -89,7 +92,7 @@ impl Argument {
                 "Behind the last connection, write each tenant N that\nwas ever opened to FOLDER/N.lines, by the lines that\nmake it again"
             }
             Argument::Journal => {
-                "Write each line to FILE before its reply binds, and play\nFILE at the start; not with --load"
+                "Write each line to PATH before its reply binds, and play\nPATH at the start: a server's is a folder, a run's is a\nfile; not with --load"
             }
             Argument::Sync => {
                 "When a record is on the disk. always: before its reply;\nsecond: a second behind it, at most, and in `run` at its\nend; never: when the system puts it there\n[default: always]"
@@ -119,9 +122,10 @@ impl Argument {
             Argument::Old => "OLD",
             Argument::New => "NEW",
             Argument::Into | Argument::Load | Argument::DumpTo => "FOLDER",
-            Argument::Journal | Argument::Keys => "FILE",
+            Argument::Journal => "PATH",
+            Argument::Keys => "FILE",
             Argument::Idle | Argument::IdleTransaction => "SECONDS",
-            Argument::TenantMemory => "MB",
+            Argument::TenantMemory | Argument::Segment => "MB",
             Argument::Sync | Argument::Renew => "WORD",
             Argument::Log => "LEVEL",
             Argument::Slow => "MILLISECONDS",
@@ -142,6 +146,7 @@ impl Argument {
             | Argument::DumpTo
             | Argument::Journal
             | Argument::Sync
+            | Argument::Segment
             | Argument::Renew => "What survives",
             Argument::Tenant | Argument::Into => "What is written",
             Argument::Status | Argument::Log | Argument::Slow => "What is told",

@@ -40,9 +40,9 @@ pub struct HostOptions {
 
 /// A server: a host, the port that it listens at (0: any free one), how many connections it serves
 /// (0: without end), after how many idle seconds it closes one, and one with a transaction (0: never),
-/// the number of its first tenant, how many megabytes each tenant may take (0: any number), what it logs, whether it stops
-/// where its input ends, the port of its status pages (0: any free one), if it has some, how many milliseconds a line
-/// takes that is logged as slow (0: none is), and which tenants it renews by itself.
+/// the number of its first tenant, how many megabytes each tenant may take (0: any number), and a segment of its journal,
+/// what it logs, whether it stops where its input ends, the port of its status pages (0: any free one), if it has some,
+/// how many milliseconds a line takes that is logged as slow (0: none is), and which tenants it renews by itself.
 #[derive(Clone, Copy, Debug)]
 pub struct ServerOptions {
     pub hosting: HostOptions,
@@ -52,6 +52,7 @@ pub struct ServerOptions {
     pub idle_transaction: u32,
     pub first_tenant: u32,
     pub tenant_memory: u32,
+    pub segment: u32,
     pub log: Severity,
     pub until_input_ends: bool,
     pub status: Option<u32>,
@@ -59,7 +60,7 @@ pub struct ServerOptions {
     pub renew: RenewPolicy,
 }
 
-/// The file of a journal, and when each of its records is brought to the disk.
+/// The folder of a server's journal, or the file of a run's, and when each of its records is brought to the disk.
 #[derive(Clone, Copy, Debug)]
 pub struct JournalWords<'a> {
     pub path: &'a str,
@@ -237,6 +238,7 @@ fn serving_of(matches: &ArgMatches<'_>) -> ServerOptions
         idle_transaction: number_at(matches, Argument::IdleTransaction),
         first_tenant: number_at(matches, Argument::FirstTenant),
         tenant_memory: number_at(matches, Argument::TenantMemory),
+        segment: number_at(matches, Argument::Segment),
         log: severity_at(matches),
         until_input_ends: text_at(matches, Argument::UntilInputEnds).is_some(),
         status: status_at(matches),
