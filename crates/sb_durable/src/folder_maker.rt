@@ -5,12 +5,11 @@ use crate::flusher::Flusher;
 use crate::folder::{Folder, FolderError};
 use crate::log_lines::{tell_turned, tell_unturned};
 use crate::segment::SegmentError;
+use crate::segment_files::SegmentFiles;
 use crate::segmented_journal::MakesSegments;
 use sb_words::Log;
 use sqlite_disk::Wary;
 use std::alloc::Global;
-use std::fs;
-use std::fs::Files;
 use std::sync::Wait;
 use std::sync::atomic::{AtomicBool, Ordering};
 
@@ -27,7 +26,7 @@ pub struct FolderMaker<'r, 'f, 'p, 'k, R, O> {
     has_told: AtomicBool,
 }
 
-impl<'r, 'f, 'p, 'k, R: Files<File = fs::File> + Wait, O: Log> FolderMaker<'r, 'f, 'p, 'k, R, O> {
+impl<'r, 'f, 'p, 'k, R: SegmentFiles + Wait, O: Log> FolderMaker<'r, 'f, 'p, 'k, R, O> {
     /// Makes files in this folder. Without a flusher each commit has synced what it wrote.
     pub fn new(
         rt: &'r R,
@@ -58,14 +57,14 @@ impl<'r, 'f, 'p, 'k, R: Files<File = fs::File> + Wait, O: Log> FolderMaker<'r, '
         let Some(flusher) = self.flusher else {
             return;
         };
-        match self.folder.reopen_segment(self.rt, self.alloc, number) {
+        match self.rt.reopen_segment(self.alloc, self.folder, number) {
             Ok(file) => flusher.follow(self.rt, file),
             Err(error) => flusher.fail(&error),
         }
     }
 }
 
-impl<'r, 'f, 'p, 'k, R: Files<File = fs::File> + Wait, O: Log> MakesSegments<File<Wary>>
+impl<'r, 'f, 'p, 'k, R: SegmentFiles + Wait, O: Log> MakesSegments<File<Wary>>
     for FolderMaker<'r, 'f, 'p, 'k, R, O> {
     /// What the segment before has is on the disk then.
     fn make_file(&self, number: u64) -> Option<File<Wary>> {
@@ -76,7 +75,7 @@ impl<'r, 'f, 'p, 'k, R: Files<File = fs::File> + Wait, O: Log> MakesSegments<Fil
         if !is_synced {
             return None;
         }
-        match self.folder.make_segment(self.rt, self.alloc, number, Wary) {
+        match self.rt.make_segment(self.alloc, self.folder, number, Wary) {
             Ok(file) => Some(file),
             Err(error) => {
                 self.tell(number, &error);
@@ -96,7 +95,7 @@ impl<'r, 'f, 'p, 'k, R: Files<File = fs::File> + Wait, O: Log> MakesSegments<Fil
         if is_of_another(&why) {
             return true;
         }
-        match self.folder.remove_segment(self.rt, self.alloc, number) {
+        match self.rt.remove_segment(self.alloc, self.folder, number) {
             Ok(()) => true,
             Err(error) => {
                 tell_unturned(self.log, number, &error);

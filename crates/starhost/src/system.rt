@@ -1,12 +1,14 @@
 //! What the program asks of the system.
 
+use sb_durable::SegmentFiles;
 use std::fs::File;
 use std::net::{Net, TcpListener, TcpStream};
 use std::rt::{Clock, Env, Files};
 use std::sync::Wait;
 use std::thread::Threads;
 
-/// A system with threads, sockets, files, a clock, an environment, a heap and a standard error.
+/// A system with threads, sockets, files, a clock, an environment, a heap and a standard error. What makes segments of a
+/// journal is named beside files, since it may go to another thread.
 pub trait System: Threads
     + Wait
     + Net<Listener = TcpListener, Stream = TcpStream>
@@ -16,7 +18,8 @@ pub trait System: Threads
     + Alloc
     + Clone
     + Drop
-    + Files<File = File> {}
+    + Files<File = File>
+    + SegmentFiles {}
 
 impl<
     T: Threads
@@ -28,5 +31,6 @@ impl<
         + Alloc
         + Clone
         + Drop
-        + Files<File = File>,
+        + Files<File = File>
+        + SegmentFiles,
 > System for T {}
