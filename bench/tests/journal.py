@@ -4,7 +4,7 @@
     python3 -m bench.tests.journal [PROGRAM] [--kills N] [--cuts N] [--each] [--requests N] [--calls N] [--seed N]
 
 PROGRAM is crates/starhost/out/starhost where no word is given. Eight clients make transactions while the server is killed
-at some moment, N times (12), with each --sync in turn; then it is started with the same folder. Each line that was answered
+at some moment, N times (12), with each --sync in turn and segments of 1 MB, which turn meanwhile; then it is started with the same folder. Each line that was answered
 has to be a record, in its order, up to the last one behind which its session had no transaction, and each tenant's dump has
 to be that of `run` over the records, with the sessions that were open ended. Then the newest segment is cut at N places
 (60), or at each of its first 3,000 bytes (--each): a first part of the records is found, or it is refused where it ends
@@ -146,14 +146,19 @@ def are_records(file, clients, before=0):
     return found
 
 
+def with_long_lines(lines):
+    """So that segments get full soon: behind each line one that is long, and refused."""
+    return [text for line in lines for text in (line, "select " + "x" * 4000)]
+
+
 def survives_kills(program, room, kills, seed):
     dice = random.Random(seed)
     file = os.path.join(room, "killed")
     makers = [Maker(seed * 100 + at) for at in range(CLIENTS)]
     answered, found = 0, []
     for at in range(kills):
-        server = journaled(program, file, "--sync", SYNCS[at % len(SYNCS)])
-        clients = [Client(server, at // 2, at % 2, makers[at].lines(60)[1:-1] + ["begin"]) for at in range(CLIENTS)]
+        server = journaled(program, file, "--sync", SYNCS[at % len(SYNCS)], "--segment", "1")
+        clients = [Client(server, at // 2, at % 2, with_long_lines(makers[at].lines(60)[1:-1]) + ["begin"]) for at in range(CLIENTS)]
         for client in clients:
             client.start()
         time.sleep(dice.random() * 0.15)
@@ -163,6 +168,7 @@ def survives_kills(program, room, kills, seed):
         found = are_records(file, clients, len(found))
         need(states(program, file, room) == states_of(program, found, room), "a start behind a kill has another state")
         answered += sum(len(client.answered) for client in clients)
+    need(len(segments(file)) > kills // 12, f"{kills} kills, and {len(segments(file))} segments")
     return answered, len(records(file)), file
 
 

@@ -48,4 +48,4 @@ abbrev pub IsPlanOf : ServerOptions → Plan → Type 0
 IsPlanOf s p =
     IsHere s.port p.address × (p.tenants ≡ s.hosting.run.tenants) × (p.cells ≡ s.hosting.cells) × (p.bound ≡ s.hosting.run.bound)
     × AreMegabytes s.tenant_memory p.tenant_memory × AreTermsOf s p.terms × (p.log ≡ s.log) × IsStatusOf s.status p.status
-    × (p.renew ≡ s.renew)
+    × (p.renew ≡ s.renew) × (p.segment ≡ s.segment * 1_048_576)

@@ -17,9 +17,6 @@ use sb_wire::Sink;
 use sb_words::{JournalWords, Syncs};
 use std::fmt::Display;
 
-/// A segment of so many bytes is full.
-const SEGMENT_LIMIT: usize = 64 << 20;
-
 impl<'k, H: Renewing + Sync, T: System + Sync> ServerContext<'k, H, T>
 where
     H::Session: Send,
@@ -50,7 +47,7 @@ where
         self.tell(b"STATUS=the journal is played\n");
         let mut opened = None;
         self.beside(port, || {
-            opened = Some(maker.open_recorder(self.host, head, SEGMENT_LIMIT));
+            opened = Some(maker.open_recorder(self.host, head, self.plan.segment));
         });
         match opened {
             Some(Ok(restarted)) => {

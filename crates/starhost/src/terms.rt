@@ -25,6 +25,8 @@ pub(crate) struct Plan {
     pub(crate) status: Option<SocketAddr>,
     /// Which tenants are renewed without being asked for.
     pub(crate) renew: RenewPolicy,
+    /// A segment of its journal with so many bytes is full.
+    pub(crate) segment: usize,
 }
 
 /// The settings that the words ask for.
@@ -42,6 +44,7 @@ pub(crate) fn plan_of(serving: ServerOptions) -> Plan
         log: serving.log,
         status: status_of(serving),
         renew: serving.renew,
+        segment: bytes_of(serving.segment),
     }
 }
 
@@ -75,6 +78,13 @@ fn here(port: u16) -> SocketAddr
     ensures { IsHere port result }
 {
     SocketAddr::new(IpAddr::V4(Ipv4Addr::new(127, 0, 0, 1)), port)
+}
+
+/// Megabytes in bytes.
+fn bytes_of(megabytes: u32) -> usize
+    ensures { result ≡ megabytes * 1_048_576 }
+{
+    megabytes as usize * 1_048_576
 }
 
 /// Megabytes in bytes. 0: no limit.
