@@ -46,14 +46,15 @@ class Root:
 
     @contextlib.contextmanager
     def mounted(self, *read_only):
-        """The root with /proc and /dev, and folders of this machine that it may read, under their own names."""
+        """The root with /proc and /dev and what is mounted there, and folders of this machine that it may read, under their own
+        names."""
         places = [("/proc", []), ("/dev", []), *((str(path), ["-o", "ro"]) for path in read_only)]
         mounted = []
         try:
             for path, options in places:
                 inside = self.folder / path.lstrip("/")
                 inside.mkdir(parents=True, exist_ok=True)
-                subprocess.run(["mount", "--bind", *options, path, inside], check=True)
+                subprocess.run(["mount", "--rbind", *options, path, inside], check=True)
                 mounted.append(inside)
             yield
         finally:
