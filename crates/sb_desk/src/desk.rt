@@ -134,6 +134,13 @@ impl<N: Naming, const FIRST: u32> Desk<N, FIRST> {
         &self.cell
     }
 
+    /// Lets each of its tenants take so many bytes (`Tenant::limit_memory`).
+    pub fn limit_memory(&mut self, bytes: u64)
+        ensures { self.new ≡ self.old }
+    {
+        self.cell.limit_memory(bytes);
+    }
+
     /// The cell alone, which is the one of this number in this host.
     pub fn into_cell(self) -> Cell
         ensures same { result ≡ self }

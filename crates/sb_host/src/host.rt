@@ -141,6 +141,14 @@ impl<N: Naming> Host<N> {
         }
     }
 
+    /// Lets each tenant take so many bytes from now on (`Tenant::limit_memory`).
+    pub fn limit_memory<R: Wait>(&self, rt: &R, bytes: u64) {
+        self.first.limit_memory(rt, bytes);
+        self.second.limit_memory(rt, bytes);
+        self.third.limit_memory(rt, bytes);
+        self.fourth.limit_memory(rt, bytes);
+    }
+
     /// Makes the step `open`, on the tenant's own cell.
     fn admit<R: Wait>(
         &self,

@@ -8,7 +8,9 @@ ghost use Rattle.sb_host.specs.LockGroups.{AreInRow};
 ghost use Rattle.sb_host.specs.Renewing.{IsOpening, KeepsRows, VolumeIsRenewed, VolumeIsUnrenewed};
 
 use crate::finish::put;
-use crate::locks::{Lock, Reach, admit_in, enter_in, leave_in, read_in, renew_in, try_read_in};
+use crate::locks::{
+    Lock, Reach, admit_in, enter_in, leave_in, limit_in, read_in, renew_in, try_read_in,
+};
 use crate::opening::{HostSize, open_desk};
 use crate::reading::Reading;
 use crate::renewal::{NotRenewedVolume, VolumeRenewal};
@@ -122,6 +124,14 @@ impl<N: Naming, const A: u32, const B: u32, const C: u32, const D: u32> LockGrou
         } else {
             try_read_in(&self.fourth, tenant, reading)
         }
+    }
+
+    /// Lets each tenant of these cells take so many bytes.
+    pub(crate) fn limit_memory<R: Wait>(&self, rt: &R, bytes: u64) {
+        limit_in(rt, &self.first, bytes);
+        limit_in(rt, &self.second, bytes);
+        limit_in(rt, &self.third, bytes);
+        limit_in(rt, &self.fourth, bytes);
     }
 
     /// Makes the step `open`, on this cell.

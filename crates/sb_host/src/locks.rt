@@ -68,6 +68,14 @@ pub(crate) fn try_read_in<N: Naming, const F: u32, V: Reading>(
     true
 }
 
+/// Lets each tenant of the cell take so many bytes, if the host has the cell.
+pub(crate) fn limit_in<N: Naming, const F: u32, R: Wait>(rt: &R, lock: &Lock<N, F>, bytes: u64) {
+    if let Some(lock) = lock {
+        let mut desk = lock.lock(rt);
+        desk.limit_memory(bytes);
+    }
+}
+
 /// Makes the step of the line that is ready.
 pub(crate) fn enter_in<N: Naming, const F: u32, R: Wait, G: Gate>(
     rt: &R,

@@ -26,8 +26,6 @@ pub(crate) struct HostSize {
     pub(crate) tenants: u32,
     pub(crate) cells: u32,
     pub(crate) bound: u32,
-    /// How many bytes each tenant may take, if that is limited.
-    pub(crate) memory: Option<u64>,
 }
 
 /// The parts of a host.
@@ -65,20 +63,11 @@ impl Opened {
                 tenants,
                 cells,
                 bound,
-                memory: None,
             },
             seats,
             all,
             blank: Blank::new(17 * CELL_PARTS),
         })
-    }
-
-    /// Lets each tenant's trail and open transactions take so many bytes. Where they are taken, no line of the tenant is
-    /// begun any more but `end` and `rollback`, which give back.
-    pub fn limit_memory(&mut self, bytes: u64)
-        ensures { self.new ≡ self.old }
-    {
-        self.numbers.memory = Some(bytes);
     }
 }
 
@@ -123,16 +112,6 @@ fn cut_part<N: Naming, const F: u32>(
     (block, share)
 }
 
-/// The cell, with its tenants' memory limited so.
-fn limited(mut cell: Cell, memory: Option<u64>) -> Cell
-    ensures { result ≡ cell }
-{
-    if let Some(bytes) = memory {
-        cell.limit_memory(bytes);
-    }
-    cell
-}
-
 /// The desk of the cell `F`, of its part of the numbers and of the ledger.
 fn desk_of<N: Naming, const F: u32>(
     alloc: Global,
@@ -152,10 +131,8 @@ fn desk_of<N: Naming, const F: u32>(
         tenants,
         cells,
         bound,
-        memory,
     } = numbers;
     let cell = Cell::with_buckets(alloc, F, cells, tenants, bound, ample_buckets(tenants))?;
-    let cell = limited(cell, memory);
     let places = (tenants - 1) / cells + 1;
     let seats = deal(alloc, table, &mut block, F, 8 * places as usize)?;
     Ok(Desk::new(cell, share, seats))

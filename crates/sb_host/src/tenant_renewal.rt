@@ -190,6 +190,9 @@ pub trait Renewing: Lending {
     ) -> Result<Renewal, NotRenewed>
         ensures ok { IfOk result (λ r. (bound : ℕ) × IsRenewed bound stubs.items fresh r.old r.opening.items) }
         ensures back { IfErr result (λ e. (e.fresh ≡ fresh) × GivesBack fresh.id stubs.items e.stubs.items) };
+
+    /// Lets each tenant take so many bytes from now on (`Tenant::limit_memory`).
+    fn limit_memory<R: Wait>(&self, rt: &R, bytes: u64);
 }
 
 impl<'h, N: Naming> Renewing for &'h Host<N> {
@@ -201,5 +204,9 @@ impl<'h, N: Naming> Renewing for &'h Host<N> {
         stubs: Vec<Stub>,
     ) -> Result<Renewal, NotRenewed> {
         (**self).renew(rt, alloc, fresh, stubs)
+    }
+
+    fn limit_memory<R: Wait>(&self, rt: &R, bytes: u64) {
+        (**self).limit_memory(rt, bytes)
     }
 }

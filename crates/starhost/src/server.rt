@@ -50,11 +50,7 @@ fn opened_by(alloc: Global, plan: Plan) -> Result<Opened, AllocError>
     requires cells { (0 < plan.cells) × (plan.cells ≤ 16) }
     ensures { IfOk result (λ o. (o.tenants ≡ plan.tenants) × (o.cells ≡ plan.cells) × (o.bound ≡ plan.bound)) }
 {
-    let mut opened = Opened::new(alloc, plan.tenants, plan.cells, plan.bound)?;
-    if let Some(bytes) = plan.tenant_memory {
-        opened.limit_memory(bytes);
-    }
-    Ok(opened)
+    Opened::new(alloc, plan.tenants, plan.cells, plan.bound)
 }
 
 /// Serves a host of these parts.

@@ -234,12 +234,20 @@ where
         ensures { port.now ≡ None → IfOk result (AreLeft
             (policy (A.wants config.now.admission.now) (A.admits config.now.admission.now)) E.may_renew) }
     {
-        self.controls.let_in();
-        self.tell(b"READY=1\nSTATUS=clients are let in\n");
+        self.let_in();
         match port {
             Some(port) => serve_beside(self.rt, self.alloc, config, self.host, port, housekeeping),
             None => serve_all(self.rt, self.alloc, config, self.host, housekeeping),
         }
+    }
+
+    /// Lets clients in. From now on each tenant has its share of memory: what was played or read before may be more.
+    fn let_in(&self) {
+        if let Some(bytes) = self.plan.tenant_memory {
+            self.host.limit_memory(self.rt, bytes);
+        }
+        self.controls.let_in();
+        self.tell(b"READY=1\nSTATUS=clients are let in\n");
     }
 
     /// True if a tenant may be renewed: some are without being asked for, or an operator can ask for one.
