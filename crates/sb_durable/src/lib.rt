@@ -18,6 +18,7 @@ mod journaled_run;
 pub mod laws;
 mod log_header;
 mod log_lines;
+mod noted_trail;
 mod pending_entries;
 mod playing;
 mod record;
