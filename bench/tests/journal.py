@@ -162,8 +162,12 @@ def survives_kills(program, room, kills, seed):
     for at in range(kills):
         server = journaled(program, file, "--sync", SYNCS[at % len(SYNCS)], "--segment", "1")
         clients = [Client(server, at // 2, at % 2, with_long_lines(makers[at].lines(60)[1:-1]) + ["begin"]) for at in range(CLIENTS)]
+        before = len(segments(file))
         for client in clients:
             client.start()
+        # each third time it is killed around the moment at which the newest segment is full
+        while at % 3 == 0 and len(segments(file)) == before and any(client.is_alive() for client in clients):
+            time.sleep(0.01)
         time.sleep(dice.random() * 0.15)
         server.kill()
         for client in clients:
