@@ -473,7 +473,7 @@ def dump_of(server, tenant):
         began = time.monotonic()
         try:
             with urllib.request.urlopen(f"http://127.0.0.1:{server.status_port}/tenants/{tenant}/dump", timeout=300) as answer:
-                need(len(answer.read()) > 1 << 18, "a long script")
+                need(len(answer.read()) > 1 << 16, "a long script")
                 return time.monotonic() - began
         except urllib.error.HTTPError as error:
             need(error.code == 409, f"a dump: {error.code}")
@@ -525,8 +525,8 @@ def cannot_be(program, room):
     for words, shape in ((("--bound", "7"), {}), ((), {"tenants": 15}), ((), {})):
         refuses("another server has it open", folder, *words, **shape)
     need(server.end()[0] == 0, "a server beside whom others were refused")
-    refuses("journal.000001: it has other settings", folder, "--bound", "7")
-    refuses("journal.000001: it has other settings", folder, tenants=15)
+    refuses("journal.000001 is of 16 tenants and bound 1000", folder, "--bound", "7")
+    refuses("journal.000001 is of 16 tenants and bound 1000", folder, tenants=15)
     data = bytes_of(newest(folder))
     os.mkdir(other)
     write_segment(os.path.join(other, "next"), 2, 7, 16, [])
