@@ -165,8 +165,8 @@ def survives_kills(program, room, kills, seed):
         before = len(segments(file))
         for client in clients:
             client.start()
-        # each third time it is killed around the moment at which the newest segment is full
-        while at % 3 == 0 and len(segments(file)) == before and any(client.is_alive() for client in clients):
+        # each sixth time it is killed around the moment at which the newest segment is full
+        while at % 6 == 0 and len(segments(file)) == before and any(client.is_alive() for client in clients):
             time.sleep(0.01)
         time.sleep(dice.random() * 0.15)
         server.kill()
