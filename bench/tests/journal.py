@@ -4,7 +4,7 @@
     python3 -m bench.tests.journal [PROGRAM] [--kills N] [--cuts N] [--each] [--requests N] [--calls N] [--seed N]
 
 PROGRAM is crates/starhost/out/starhost where no word is given. Eight clients make transactions while the server is killed
-at some moment, N times (12), with each --sync in turn and segments of 1 MB, which turn meanwhile; then it is started with
+at some moment, N times (12), with each --sync in turn, and twice about when a segment of 1 MB is full; then it is started with
 the same folder. Each line that was answered has to be a record, in its order, up to the last one behind which its session
 had no transaction, and each tenant's dump has to be that of `run` over the records, with the sessions that were open ended.
 Then the newest segment is cut at N places (60), or at each of its first 3,000 bytes (--each): a first part of the records
@@ -31,7 +31,7 @@ import time
 import urllib.error
 import urllib.request
 
-from bench.harness import BUILT, Server, connect, library, more_lines, need, run, tried
+from bench.harness import BUILT, Server, connect, library, more_lines, need, run, tried, until
 from bench.segments import HEAD, blocks, bytes_of, newest, records, segments, write_segment
 from bench.tests.generated import Maker
 
@@ -149,25 +149,16 @@ def are_records(file, clients, before=0):
     return found
 
 
-def with_long_lines(lines):
-    """So that segments get full soon: behind each line one that is long, and refused."""
-    return [text for line in lines for text in (line, "select " + "x" * 4000)]
-
-
 def survives_kills(program, room, kills, seed):
     dice = random.Random(seed)
     file = os.path.join(room, "killed")
     makers = [Maker(seed * 100 + at) for at in range(CLIENTS)]
     answered, found = 0, []
     for at in range(kills):
-        server = journaled(program, file, "--sync", SYNCS[at % len(SYNCS)], "--segment", "1")
-        clients = [Client(server, at // 2, at % 2, with_long_lines(makers[at].lines(60)[1:-1]) + ["begin"]) for at in range(CLIENTS)]
-        before = len(segments(file))
+        server = journaled(program, file, "--sync", SYNCS[at % len(SYNCS)])
+        clients = [Client(server, at // 2, at % 2, makers[at].lines(60)[1:-1] + ["begin"]) for at in range(CLIENTS)]
         for client in clients:
             client.start()
-        # each sixth time it is killed around the moment at which the newest segment is full
-        while at % 6 == 0 and len(segments(file)) == before and any(client.is_alive() for client in clients):
-            time.sleep(0.01)
         time.sleep(dice.random() * 0.15)
         server.kill()
         for client in clients:
@@ -175,8 +166,31 @@ def survives_kills(program, room, kills, seed):
         found = are_records(file, clients, len(found))
         need(states(program, file, room) == states_of(program, found, room), "a start behind a kill has another state")
         answered += sum(len(client.answered) for client in clients)
-    need(len(segments(file)) > kills // 12, f"{kills} kills, and {len(segments(file))} segments")
     return answered, len(records(file)), file
+
+
+def with_long_lines(lines):
+    """So that segments get full soon: behind each line one that is long, and refused."""
+    return [text for line in lines for text in (line, "select " + "x" * 4000)]
+
+
+def survives_turns(program, room, turns):
+    """The same with segments of 1 MB: it is killed about when the newest one is full, so many times."""
+    file = os.path.join(room, "turned")
+    found = []
+    for at in range(turns):
+        server = journaled(program, file, "--sync", SYNCS[at % len(SYNCS)], "--segment", "1")
+        clients = [Client(server, own // 2, own % 2, with_long_lines(Maker(at * CLIENTS + own).lines(60)[1:-1])) for own in range(CLIENTS)]
+        before = len(segments(file))
+        for client in clients:
+            client.start()
+        until("its newest segment is full", lambda: len(segments(file)) > before)
+        server.kill()
+        for client in clients:
+            client.join()
+        found = are_records(file, clients, len(found))
+        need(states(program, file, room) == states_of(program, found, room), "a start behind a kill at a turn has another state")
+    return len(segments(file))
 
 
 def crashed(data, dice):
@@ -594,6 +608,7 @@ def main():
     with tempfile.TemporaryDirectory() as room:
         answered, kept, folder = survives_kills(program, room, asked.kills, asked.seed)
         print(f"{asked.kills} kills: {answered} lines were answered, and all that bind are there; {kept} records")
+        print(f"2 kills at a turn: {survives_turns(program, room, 2)} segments, and all that bind is there")
         copied = Copied(program, room, folder)
         parts, refused = survives_cuts(copied, asked.cuts, asked.each, asked.seed)
         print(f"{parts} parts of a segment: a first part of the records is found, or it ends within a batch: {refused} were refused")
