@@ -46,24 +46,25 @@ class Root:
 
     @contextlib.contextmanager
     def mounted(self, *read_only):
-        """The root with /proc and /dev, and folders of this machine that it may read, under their own names."""
+        """The root with /proc and /dev and what is mounted there, and folders of this machine that it may read, under their own
+        names."""
         places = [("/proc", []), ("/dev", []), *((str(path), ["-o", "ro"]) for path in read_only)]
         mounted = []
         try:
             for path, options in places:
                 inside = self.folder / path.lstrip("/")
                 inside.mkdir(parents=True, exist_ok=True)
-                subprocess.run(["mount", "--bind", *options, path, inside], check=True)
+                subprocess.run(["mount", "--rbind", *options, path, inside], check=True)
                 mounted.append(inside)
             yield
         finally:
             for inside in reversed(mounted):
                 subprocess.run(["umount", "--lazy", inside], check=True)
 
-    def told(self, text, **given):
+    def told(self, text):
         """What a text of a shell prints in there, as a user who has just logged in."""
         words = ["env", "-i", "HOME=/root", "LANG=C.UTF-8", f"PATH={os.defpath}:/usr/sbin:/sbin:/usr/local/bin"]
-        run = subprocess.run(["chroot", self.folder, *words, "sh", "-c", text], stdout=subprocess.PIPE, text=True, **given)
+        run = subprocess.run(["chroot", self.folder, *words, "sh", "-c", text], stdout=subprocess.PIPE, text=True)
         need(run.returncode == 0, f"{text.splitlines()[0]} ends well: {run.stdout[-2000:]}")
         return run.stdout
 
@@ -80,7 +81,7 @@ def tries_clone(root, quick):
     subprocess.run(["git", "clone", "--quiet", f"file://{TOP}", root.folder / "root/filgwesha"], check=True)
     with root.mounted(where):
         begun = time.monotonic()
-        answered = root.told("cd filgwesha/crates/starhost && rt try < ../../examples/card.lines", cwd="/root")
+        answered = root.told("cd /root/filgwesha/crates/starhost && rt try < ../../examples/card.lines")
         need(answered == readme_session()[1], f"the first command prints what README shows: {answered}")
         print(f"fresh root: the first command answers, {time.monotonic() - begun:.0f} s")
         if quick:

@@ -4,20 +4,20 @@
     python3 -m bench.tests.journal [PROGRAM] [--kills N] [--cuts N] [--each] [--requests N] [--calls N] [--seed N]
 
 PROGRAM is crates/starhost/out/starhost where no word is given. Eight clients make transactions while the server is killed
-at some moment, N times (12), with each --sync in turn, and twice about when a segment of 1 MB is full; then it is started with
-the same folder. Each line that was answered has to be a record, in its order, up to the last one behind which its session
-had no transaction, and each tenant's dump has to be that of `run` over the records, with the sessions that were open ended.
-Then the newest segment is cut at N places (60), or at each of its first 3,000 bytes (--each): a first part of the records
-is found, or it is refused where it ends within its head or within a batch. Bytes that are written over it, and single bits
-that are flipped, are refused, or the tables are the same. A segment that is missing, doubled, or of another server is
-refused, and nothing in the folder is changed. N requests for memory (60) are refused in turn, alone or with those behind
-them (refuse.c, compiled by cc): where a record lacks memory, replies wait. Each of N calls on files (40) fails in turn
-(refuse_disk.c), with --sync always and second: the server ends with a fault, and what it answered is there. With second
-there is a sync each second under load and one behind the last line, none of it while nothing comes, and one that fails ends
-the server before its next reply to a commit; a run makes one before it ends. A transaction of four lines waits for two
-syncs, those of its commit. While a tenant is dumped, those of other cells commit. Then what can't be: two servers on one
-folder, another number of tenants, another bound, a full disk, and what is no folder of segments, which stays as it is. The
-first thing that isn't as it is to be ends this with status 1.
+at some moment, N times (12), with each --sync in turn, and twice about when a segment of 1 MB is full; then it is started
+with the same folder. Each line that was answered has to be a record, in its order, up to the last one behind which its
+session had no transaction, and each tenant's dump has to be that of `run` over the records, with the sessions that were
+open ended. Then the newest segment is cut at N places (60), or at each of its first 3,000 bytes (--each): a first part of
+the records is found, or it is refused where it ends within its head or within a batch. Bytes that are written over it, and
+single bits that are flipped, are refused, or the tables are the same. A segment that is missing, doubled, or of another
+server is refused, and nothing in the folder is changed. N requests for memory (60) are refused in turn, alone or with those
+behind them (refuse.c, compiled by cc): where a record lacks memory, replies wait. Each of N calls on files (40) fails in
+turn (refuse_disk.c), with --sync always and second: the server ends with a fault, and what it answered is there. With
+second there is a sync each second under load and one behind the last line, none of it while nothing comes, and one that
+fails ends the server before its next reply to a commit; a run makes one before it ends. A transaction of four lines waits
+for two syncs, those of its commit. While a tenant is dumped, those of other cells commit. Then what can't be: two servers on
+one folder, another number of tenants, another bound, a full disk, and what is no folder of segments, which stays as it is.
+The first thing that isn't as it is to be ends this with status 1.
 """
 
 import argparse

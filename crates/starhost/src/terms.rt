@@ -1,5 +1,5 @@
 //! What a server's words say of it, as the server takes it.
-ghost use Rattle.std.specs.Prelude.{◌≤◌};
+ghost use Rattle.std.specs.Prelude.{◌≡◌, ◌≤◌, ◌*◌};
 ghost use Rattle.starhost.specs.Terms.{AreMegabytes, AreMillis, AreTermsOf, IsHere, IsPlanOf, IsSeconds, IsStatusOf};
 ghost use Rattle.sb_words.specs.Within.{AreServer};
 
