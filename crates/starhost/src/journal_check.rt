@@ -32,7 +32,7 @@ pub(crate) fn check<T: System, W: Sink>(
     }
 }
 
-/// What the folder at this path has of a journal. Nothing is made where nothing is.
+/// Reads the journal in the folder at this path. Nothing is made there.
 fn found_at<T: System>(rt: &T, alloc: Global, path: &str) -> Result<JournalSummary, FolderError> {
     fs::metadata(rt, path)?;
     let folder = Folder::open(rt, path, Syncing::Always)?;
