@@ -15,9 +15,9 @@ behind them (refuse.c, compiled by cc): where a record lacks memory, replies wai
 turn (refuse_disk.c), with --sync always and second: the server ends with a fault, and what it answered is there. With
 second there is a sync each second under load and one behind the last line, none of it while nothing comes, and one that
 fails ends the server before its next reply to a commit; a run makes one before it ends. A transaction of four lines waits
-for two syncs, those of its commit. Then what can't be: two servers on one folder, another number of tenants, another bound,
-a full disk, and what is no folder of segments, which stays as it is. The first thing that isn't as it is to be ends this
-with status 1.
+for two syncs, those of its commit. While a tenant is dumped, those of other cells commit. Then what can't be: two servers on
+one folder, another number of tenants, another bound, a full disk, and what is no folder of segments, which stays as it is.
+The first thing that isn't as it is to be ends this with status 1.
 """
 
 import argparse
@@ -28,6 +28,8 @@ import subprocess
 import tempfile
 import threading
 import time
+import urllib.error
+import urllib.request
 
 from bench.harness import BUILT, Server, connect, library, more_lines, need, run, tried, until
 from bench.segments import HEAD, blocks, bytes_of, newest, records, segments, write_segment
@@ -457,6 +459,66 @@ def share_bounds_file(program, room):
     return size
 
 
+class Committing(threading.Thread):
+    """Commits transactions over one connection until it is told to stop, and notes the longest wait for an answer."""
+
+    def __init__(self, server, tenant):
+        super().__init__()
+        self.stream, self.tenant, self.server = server.connect(), tenant, server
+        self.stops, self.longest, self.count = threading.Event(), 0.0, 0
+
+    def run(self):
+        file = self.stream.makefile("rb")
+        self.stream.sendall(f"{self.tenant} 1\n".encode())
+        need(file.readline() == b"ok\n", "a session")
+        while not self.stops.is_set():
+            for line in (b"begin", b"insert into c values (1)", b"commit"):
+                began = time.monotonic()
+                self.stream.sendall(line + b"\n")
+                need(file.readline()[:2] in (b"ok", b"do"), "an answer beside a dump")
+                self.longest = max(self.longest, time.monotonic() - began)
+            self.count += 1
+        self.stream.close()
+
+
+def dump_of(server, tenant):
+    """How long a tenant's dump takes, at a moment at which it has no transaction."""
+    while True:
+        began = time.monotonic()
+        try:
+            with urllib.request.urlopen(f"http://127.0.0.1:{server.status_port}/tenants/{tenant}/dump", timeout=300) as answer:
+                need(len(answer.read()) > 1 << 16, "a long script")
+                return time.monotonic() - began
+        except urllib.error.HTTPError as error:
+            need(error.code == 409, f"a dump: {error.code}")
+
+
+def dumps_keep_nobody(program, room):
+    """While one tenant is dumped, those of other cells commit: the longest wait for an answer, and the shortest dump."""
+    server = journaled(program, os.path.join(room, "dumped"), "--sync", "always", "--status", "0", tenants=4)
+    tables = [f"t{at}" for at in range(2)]
+    grown = ["begin", "insert into u values (1, 'some text')", *["insert into u select * from u"] * 10, *[f"insert into {name} select * from u" for name in tables] * 4, "commit"]
+    for tenant in range(4):
+        made = [f"create table {name} (a int, b text)" for name in ("u", *tables)] + grown if tenant == 0 else []
+        told = server.ask("\n".join([f"{tenant} 0", "create table c (a int)", *made, ""]))
+        need("no " not in told, f"tables: {told}")
+    clients = [Committing(server, tenant) for tenant in range(4)]
+    for client in clients:
+        client.start()
+    dumps = []
+    for _ in range(3):
+        for client in clients:
+            client.longest = 0.0
+        took = dump_of(server, 0)
+        dumps.append((max(client.longest for client in clients[1:]), took))
+    for client in clients:
+        client.stops.set()
+        client.join()
+    need(server.end()[0] == 0, "a server whose tenant was dumped")
+    need(all(waited < took / 2 for waited, took in dumps), f"while a tenant was dumped, others waited: {dumps}")
+    return dumps
+
+
 def fault(ended):
     status, out, log = ended
     need(status == 1 and out == "", f"status {status}, {out}, {log}")
@@ -477,8 +539,8 @@ def cannot_be(program, room):
     for words, shape in ((("--bound", "7"), {}), ((), {"tenants": 15}), ((), {})):
         refuses("another server has it open", folder, *words, **shape)
     need(server.end()[0] == 0, "a server beside whom others were refused")
-    refuses("journal.000001: it has other settings", folder, "--bound", "7")
-    refuses("journal.000001: it has other settings", folder, tenants=15)
+    refuses("journal.000001 is of 16 tenants and bound 1000", folder, "--bound", "7")
+    refuses("journal.000001 is of 16 tenants and bound 1000", folder, tenants=15)
     data = bytes_of(newest(folder))
     os.mkdir(other)
     write_segment(os.path.join(other, "next"), 2, 7, 16, [])
@@ -563,6 +625,8 @@ def main():
         trial(feels_late_sync, program, room, refuses)
         settles_a_run(program, room, refuses)
         cannot_be(program, room)
+        waited, took = max(dumps_keep_nobody(program, room))
+        print(f"while a tenant is dumped for {took:.1f} s, others wait for {waited:.2f} s at most")
         print(f"--tenant-memory 1: a greedy tenant's part of the journal is {share_bounds_file(program, room)} bytes over three starts")
         print(f"a full disk ends the server behind {full_disk(program, room)} answers, and they are there")
 

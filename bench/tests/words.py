@@ -133,6 +133,7 @@ ELSEWHERE = [
     ("--keys x", "key"),
     ("--tenants 2", "key"),
     ("--cells 2", "compact x y"),
+    ("--tenants 2", "journal check x"),
     ("--load x", "compact x y"),
     ("--tenant 0", "serve --load x"),
     ("--cells 2", "dump"),
@@ -164,6 +165,8 @@ UNREAD = [
     ("--help=3", "unexpected value '3' for '--help' found; no more were expected", "starhost --help", None),
     ("compact x", "the following required arguments were not provided:\n  <NEW>", "starhost compact <OLD> <NEW>", None),
     ("compact x y z", "unexpected argument 'z' found", "starhost compact [OPTIONS] <OLD> <NEW>", None),
+    ("journal check", "the following required arguments were not provided:\n  <FOLDER>", "starhost journal <ACTION> <FOLDER>", None),
+    ("journal check x y", "unexpected argument 'y' found", "starhost journal <ACTION> <FOLDER>", None),
 ]
 
 # The greatest numbers and the least.
@@ -235,6 +238,8 @@ LOGGED_FAULTS = [
     ("serve --port 0 --keys {folder}/none", b"no keys"),
     ("serve --port 0 --keys {folder}/bad.keys", b"bad keys 1"),
     ("compact {folder}/none {folder}/other", b"cannot open journal"),
+    ("journal check {folder}/none", b"cannot open journal"),
+    ("journal check {folder}", b"cannot open journal"),
 ]
 
 
@@ -305,6 +310,8 @@ def are_refused(program):
     # the first part in the order of the options is told, whatever stands first in the line
     words = "replay --workers x --cells 0"
     program.expect(words, program.run(words), Ended(2, b"", is_allowed("--cells 0")))
+    words = "journal mend x"
+    program.expect(words, program.run(words), Ended(2, b"", b"error: the word mend isn't allowed; allowed is check\n"))
     for option, command in ELSEWHERE:
         words = f"{command} {option}"
         ended = program.run(words)

@@ -39,3 +39,4 @@ mod BatchJournals
 mod VolumeLives
 mod Journals
 mod Needs
+mod NotedTrails

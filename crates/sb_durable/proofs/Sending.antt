@@ -9,10 +9,15 @@ use Rattle.sqlite_disk.specs.contracts.modelled.Modelled as Modelled
 use Rattle.sqlite_disk.specs.contracts.start.Wary as Wary
 use Rattle.sb_durable.proofs.journal.Journal.TheSendSync as journal
 use Rattle.sb_durable.proofs.journal_writer.JournalWriter.TheSendSync as journal_writer
+use Rattle.sb_durable.proofs.entry_reader.EntryReader.TheSendSync as entry_reader
+use Rattle.sb_durable.proofs.entry_reader.PendingEntry.TheSendSync as pending_entry
+use Rattle.sb_durable.proofs.noted_trail.NotedTrail.TheSendSync as noted_trail
 use Rattle.sb_durable.proofs.recorder.Callers.TheSendSync as callers
 use Rattle.sb_durable.proofs.row_journal.RowJournal.TheSendSync as row_journal
 use Rattle.sb_durable.proofs.segmented_journal.SegmentedJournal.TheSendSync as segmented_journal
 use Rattle.sb_durable.specs.contracts.recorder.Callers as Callers
+use Rattle.sb_durable.specs.contracts.recorded_reach.RecordedReach as RecordedReach
+use Rattle.sb_tenant.proofs.reply.Line.TheSendSync as line
 use Rattle.sb_durable.specs.contracts.journal.Journal as Journal
 use Rattle.sb_durable.specs.contracts.journal_writer.JournalWriter as JournalWriter
 use Rattle.sb_durable.proofs.system_file.Syncing.TheSendSync as syncing
@@ -21,8 +26,11 @@ use Rattle.sb_durable.specs.contracts.row_journal.RowJournal as RowJournal
 use Rattle.sb_durable.specs.contracts.segmented_journal.SegmentedJournal as SegmentedJournal
 use Rattle.sb_durable.specs.contracts.system_file.SystemFile as SystemFile
 
+pub reach_send : IsSend RecordedReach.the_row
+reach_send = search (sendable, crosses) depth 40
+
 pub callers_send : IsSend Callers.the_row
-callers_send = search (sendable, crosses, frees, callers.the_send) depth 40
+callers_send = search (sendable, crosses, frees, callers.the_send, noted_trail.the_send, entry_reader.the_send, pending_entry.the_send, line.the_send, reach_send) depth 60
 
 module _ (B : RattleType) where
   pub book_send : IsSend B → IsSend (JournalWriter.the_row B)

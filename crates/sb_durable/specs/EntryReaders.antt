@@ -1,5 +1,5 @@
 -- Machine: what is noted of a trail while its cell's lock is held.
-use Rattle.std.specs.Prelude.{◌≡◌, ℕ, ◌^◌, ◌<◌, ◌≤◌, Bool, true, false, List, length, map, take, drop, codes, cond, Some, None, unwrap_or}
+use Rattle.std.specs.Prelude.{◌≡◌, ℕ, ◌+◌, ◌^◌, ◌<◌, ◌≤◌, Bool, true, false, List, length, map, take, drop, codes, cond, Some, None, unwrap_or}
 use Rattle.sb_durable.specs.Records.{Entry as Record}
 use Rattle.sb_tenant.specs.declared.reply.Entry.{Entry}
 use Rattle.sb_tenant.specs.Trail.{is_no_memory}
@@ -51,6 +51,20 @@ abbrev pub Reads : EntryReader → Tenant → EntryReader → Type 0
 Reads old own new =
     IsLegal own × GoesOn old.start.reach new.start.reach new.start.is_renewed × NotesBehind new.start.reach own new.list.items new.reach
     × (new.reach ≡ Nowhere → IsApart old.start.reach own)
+
+-- It has noted a tenant of this number, from where that goes on which was recorded.
+abbrev pub IsNoted : ℕ → RecordedReach → EntryReader → Type 0
+IsNoted tenant recorded notes =
+    (own : Tenant) × (own.id ≡ tenant) × IsLegal own × GoesOn recorded notes.start.reach notes.start.is_renewed
+    × NotesBehind notes.start.reach own notes.list.items notes.reach
+
+-- It has come to the end of the trail, which is there.
+abbrev pub EndsAt : EntryReader → RecordedReach → Type 0
+EndsAt notes at = (notes.reach ≡ End) × (at.volume ≡ notes.start.reach.volume) × (at.entries ≡ notes.start.reach.entries + length notes.list.items)
+
+-- The trail of a tenant of this number ended there at some moment.
+abbrev pub IsEndOf : ℕ → RecordedReach → Type 0
+IsEndOf tenant at = (own : Tenant) × (own.id ≡ tenant) × IsLegal own × (at.volume ≡ own.volume) × (at.entries ≡ length own.trail)
 
 -- whether all was staged that there is
 abbrev pub IsStaged : ReadReach → Bool → Type 0

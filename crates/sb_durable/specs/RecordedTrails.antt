@@ -10,6 +10,7 @@ use Rattle.sb_durable.specs.declared.entry_reader.EntryReader.{EntryReader}
 use Rattle.sb_durable.specs.declared.entry_reader.ReadReach.{ReadReach}
 use Rattle.sb_durable.specs.declared.entry_reader.ReadReach.TheVariants as reach
 use Rattle.sb_durable.specs.declared.journal_writer.JournalWriter.{JournalWriter}
+use Rattle.sb_durable.specs.declared.noted_trail.TrailEnd.{TrailEnd}
 use Rattle.sb_durable.specs.declared.recorded_reach.RecordingStart.{RecordingStart}
 
 -- The files have these records, and a first part of those behind them.
@@ -31,6 +32,16 @@ pub record Takes {J : Type 0} (kind : Ghosts J) (given_up : Type 0) (old new : J
   pub counts : Counts old.recorded.items parts new.recorded.items
   pub has : given_up ⊎ HasFront kind new.journal base records (waiting ++ records_of parts)
   pub crash : (files : List (List ℕ)) → kind.leaves new.journal base files → KeepsFront kind base records (waiting ++ records_of parts) files
+
+-- Whatever it had, the book has recorded some parts beside it.
+abbrev pub TakesParts : {J : Type 0} → Ghosts J → Type 0 → JournalWriter J → JournalWriter J → Type 0
+TakesParts kind given_up old new =
+    (base : Base) (records waiting : List Record) → kind.has old.journal base records waiting
+    → (parts : List Part) × Takes kind given_up old new base records waiting parts
+
+-- the tenants whose trails end there
+abbrev pub ends_of : List TrailEnd → List ℕ
+ends_of ends = map (λ end. end.tenant) ends
 
 -- These steps of a tenant wait then, too, behind the renewal if there is one, and are counted.
 pub record Stages {J : Type 0} (kind : Ghosts J) (old new : JournalWriter J) (tenant : ℕ) (start : RecordingStart) (notes : List PendingEntry) : Type 0 where

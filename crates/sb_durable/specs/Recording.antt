@@ -52,7 +52,7 @@ renewed reach opening = record { volume = following reach.volume reach.entries o
 abbrev pub HasRenewed : RecordedReach → ℕ → Type 0
 HasRenewed reach opening = (opening < 2 ^ 32) × HasFollowing reach.volume reach.entries
 
--- Where recording goes on: at the same place, or behind a renewal. The volume that it finds then is the one that follows, and counts as many entries before it as are recorded. So all of them are, and there was no other renewal.
+-- Recording goes on at the same place, or behind a renewal. Then the volume is the one that follows, and counts as many entries before it as are recorded: so all of them are, and there was no other renewal.
 abbrev pub GoesOn : RecordedReach → RecordedReach → Bool → Type 0
 GoesOn reach at false = at ≡ reach
 GoesOn reach at true = at ≡ renewed reach at.volume.opening

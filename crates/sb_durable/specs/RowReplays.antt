@@ -69,7 +69,7 @@ pub record IsReadAs {D : Type 0} (seen : D → List ℕ) (reader : RowReader D) 
   pub bytes : contents_of batches ≡ all_contents (older ++ filed reader.last contents ∷ [])
   pub all : records ≡ all_of batches
 
--- Where all disks' answers were true, and the files keep records, as a crash leaves them, the records that were played are these, and the reader has read their row.
+-- Suppose that all answers of the disks were true, and that the files keep records, as a crash leaves them. Then the records that were played are these, and the reader has read their row.
 abbrev pub ReadsWhatIsKept : {D : Type 0} → (D → List ℕ) → (D → Bool) → List D → RowReader D → List Entry → Type 0
 ReadsWhatIsKept seen is_clean files reader played =
     AllByRecursion (λ d. IsTrue (is_clean d)) files → (head : Head) (records : List Entry) → AreRecords records → KeepRow head records (map seen files)

@@ -46,6 +46,11 @@ impl PendingEntry {
             None => ROLLBACK,
         }
     }
+
+    /// The bytes of its record. One that is too long is seen when it is staged.
+    pub(crate) fn size(&self) -> usize {
+        BESIDE + self.text().len().min(LINE_LIMIT)
+    }
 }
 
 /// How far the entries were read.
@@ -103,7 +108,7 @@ impl EntryReader {
     }
 }
 
-/// Stages the first of these entries, as many as there is room for.
+/// Notes the first of these entries, as many as there is room for.
 fn note_all(list: &mut Vec<PendingEntry>, entries: &[Entry], room: usize) -> ReadReach
     requires { list.old.items ≡ [] }
     ensures { NotesAll entries.now list.new.items result }
@@ -113,8 +118,7 @@ fn note_all(list: &mut Vec<PendingEntry>, entries: &[Entry], room: usize) -> Rea
         let Ok(note) = PendingEntry::of(entry) else {
             return ReadReach::NoMemory;
         };
-        // one that is too long is seen when it is staged
-        let needs = BESIDE + note.text().len().min(LINE_LIMIT);
+        let needs = note.size();
         if needs > left {
             return ReadReach::Part;
         }

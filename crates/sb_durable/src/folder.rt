@@ -46,6 +46,13 @@ pub enum FolderError {
         number: u64,
         why: RowError,
     },
+    /// It is the journal of another server.
+    #[error("journal.{number:06} is of {tenants} tenants and bound {bound}")]
+    OtherSettings {
+        number: u64,
+        tenants: u32,
+        bound: u64,
+    },
     /// Its head has other settings than those of a journal.
     #[error("journal.{0:06} has no settings of a journal")]
     NoSettings(u64),

@@ -5,7 +5,7 @@ use crate::flusher::Flusher;
 use crate::folder::{Folder, FolderError};
 use crate::log_lines::{tell_turned, tell_unturned};
 use crate::segment::SegmentError;
-use crate::segment_files::SegmentFiles;
+use crate::segment_storage::SegmentStorage;
 use crate::segmented_journal::MakesSegments;
 use sb_words::Log;
 use sqlite_disk::Wary;
@@ -26,7 +26,7 @@ pub struct FolderMaker<'r, 'f, 'p, 'k, R, O> {
     has_told: AtomicBool,
 }
 
-impl<'r, 'f, 'p, 'k, R: SegmentFiles + Wait, O: Log> FolderMaker<'r, 'f, 'p, 'k, R, O> {
+impl<'r, 'f, 'p, 'k, R: SegmentStorage + Wait, O: Log> FolderMaker<'r, 'f, 'p, 'k, R, O> {
     /// Makes files in this folder. Without a flusher each commit has synced what it wrote.
     pub fn new(
         rt: &'r R,
@@ -64,9 +64,9 @@ impl<'r, 'f, 'p, 'k, R: SegmentFiles + Wait, O: Log> FolderMaker<'r, 'f, 'p, 'k,
     }
 }
 
-impl<'r, 'f, 'p, 'k, R: SegmentFiles + Wait, O: Log> MakesSegments<File<Wary>>
+impl<'r, 'f, 'p, 'k, R: SegmentStorage + Wait, O: Log> MakesSegments<File<Wary>>
     for FolderMaker<'r, 'f, 'p, 'k, R, O> {
-    /// What the segment before has is on the disk then.
+    /// Syncs the segment before it first.
     fn make_file(&self, number: u64) -> Option<File<Wary>> {
         let is_synced = match self.flusher {
             Some(flusher) => flusher.flush(self.rt),

@@ -1,18 +1,17 @@
 //! The journal, and how much of each trail is recorded in it.
-ghost use Rattle.std.specs.Prelude.{◌≡◌, ◌⊎◌, ◌+◌, ◌<◌, ◌≤◌, ◌++◌, [], ◌∷◌, List, ℕ, true, length, slice_set, is_ok, IfOk, IfErr, OnOk, OnErr, IsErr, IsTrue};
+ghost use Rattle.std.specs.Prelude.{◌≡◌, ◌⊎◌, ◌+◌, ◌<◌, ◌≤◌, ◌++◌, [], ◌∷◌, List, ℕ, true, length, slice_set, is_ok, IfOk, IfErr, OnOk, OnErr, IsErr, IsTrue, Some, slice_get, ◌↔◌};
 ghost use Rattle.sb_durable.specs.BatchJournals.{Base};
 ghost use Rattle.sb_durable.specs.Records.{Entry};
-ghost use Rattle.sb_durable.specs.EntryReaders.{record_of_note};
-ghost use Rattle.sb_durable.specs.Recording.{Part, records_of, renewals_of, AreAmong, AreOf, Reaches};
+ghost use Rattle.sb_durable.specs.EntryReaders.{IsEndOf, IsStaged, record_of_note};
+ghost use Rattle.sb_durable.specs.Recording.{renewals_of};
 
 use crate::entry_reader::{EntryReader, PendingEntry, ReadReach};
-use crate::record::{RENEWAL_SIZE, renewal};
+use crate::noted_trail::{NotedTrail, TrailEnd};
+use crate::record::renewal;
 use crate::recorded_reach::RecordingStart;
 use crate::{BatchJournal, JournalError, Record, RecordedReach};
-use sb_host::Lending;
 use sb_wire::LINE_LIMIT;
 use std::alloc::Global;
-use std::sync::Wait;
 
 #[derive(Drop)]
 pub(crate) struct JournalWriter<B> {
@@ -23,90 +22,106 @@ pub(crate) struct JournalWriter<B> {
 }
 
 impl<B: BatchJournal> JournalWriter<B> {
-    ghost use Rattle.sb_durable.specs.EntryReaders.{IsStaged};
-    ghost use Rattle.sb_durable.specs.RecordedTrails.{BringsUp, StagesNoted, StagesNothing, StagesSome, Takes};
+    ghost use Rattle.std.specs.List.{All};
+    ghost use Rattle.sb_durable.specs.RecordedTrails.{AreKept, StagesNoted, StagesNothing, StagesSome, Takes, TakesParts, ends_of};
+    ghost use Rattle.sb_durable.specs.declared.noted_trail.TrailEnd.{TrailEnd as ItsEnd};
 
-    /// Records what the trails of these tenants have beyond the journal, and commits it. It may be called again after a
-    /// lack of memory.
-    pub(crate) fn catch_up<H: Lending, T: Wait>(
+    /// Records what was noted of trails, where they are recorded as far as they were then, and commits it. True if each of
+    /// these ends is recorded. It may be called again after a lack of memory.
+    pub(crate) fn bring_up(
         &mut self,
-        rt: &T,
-        host: H,
-        tenants: &[u32],
-    ) -> Result<(), JournalError>
-        ensures ok { OnOk result (BringsUp B.BatchJournal self.old self.new tenants.now) }
-        ensures err { OnErr result ((base : Base) (records waiting : List Entry) → B.BatchJournal.has self.old.journal base records waiting
-            → (parts : List Part) × Takes B.BatchJournal (B.BatchJournal.is_over self.new.journal) self.old self.new base records waiting parts × AreAmong tenants.now parts) }
+        trails: &[NotedTrail],
+        ends: &[TrailEnd],
+    ) -> Result<bool, JournalError>
+        ensures kept { IfOk result (λ is_kept. IsTrue is_kept → All (λ (end : ItsEnd). IsEndOf end.tenant end.reach) ends.now → AreKept B.BatchJournal (ends_of ends.now)) }
+        ensures ok { OnOk result ∥ TakesParts B.BatchJournal ⊥ self.old self.new ∥₁ }
+        ensures err { OnErr result ∥ TakesParts B.BatchJournal (B.BatchJournal.is_over self.new.journal) self.old self.new ∥₁ }
         ensures spent { B.BatchJournal.is_over self.old.journal → IsErr result × (self.new ≡ self.old) }
     {
-        self.journal.is_kept();
         if self.journal.is_spent() {
+            self.journal.is_kept();
             return Err(JournalError::Spent);
         }
-        for tenant in tenants {
-            self.take(rt, host, *tenant)?;
-        }
-        self.commit()
+        self.stage_all(trails)?;
+        let is_kept = self.has_all(ends);
+        self.commit()?;
+        Ok(is_kept)
     }
 
-    /// Stages what a tenant's trail has beyond the journal. If the buffer is full, what is staged is committed first.
-    fn take<H: Lending, T: Wait>(
-        &mut self,
-        rt: &T,
-        host: H,
-        tenant: u32,
-    ) -> Result<(), JournalError>
-        ensures ok { OnOk result ((base : Base) (records waiting : List Entry) → B.BatchJournal.has self.old.journal base records waiting
-            → (parts : List Part) × Takes B.BatchJournal ⊥ self.old self.new base records waiting parts × AreOf tenant parts × Reaches parts tenant) }
-        ensures err { OnErr result ((base : Base) (records waiting : List Entry) → B.BatchJournal.has self.old.journal base records waiting
-            → (parts : List Part) × Takes B.BatchJournal (B.BatchJournal.is_over self.new.journal) self.old self.new base records waiting parts × AreOf tenant parts) }
+    /// Stages what was noted of trails.
+    fn stage_all(&mut self, trails: &[NotedTrail]) -> Result<(), JournalError>
+        ensures ok { OnOk result ∥ TakesParts B.BatchJournal ⊥ self.old self.new ∥₁ }
+        ensures err { OnErr result ∥ TakesParts B.BatchJournal (B.BatchJournal.is_over self.new.journal) self.old self.new ∥₁ }
     {
         self.journal.is_kept();
-        for _ in rt.forever() {
-            let is_whole = self.take_some(rt, host, tenant)?;
-            if is_whole {
-                return Ok(());
-            }
-            self.commit()?;
+        for trail in trails {
+            self.stage_trail(trail)?;
         }
-        unreachable!()
+        Ok(())
     }
 
-    /// Stages entries until the buffer is full. True if none is left.
-    fn take_some<H: Lending, T: Wait>(
-        &mut self,
-        rt: &T,
-        host: H,
-        tenant: u32,
-    ) -> Result<bool, JournalError>
-        ensures ok { IfOk result (λ is_whole. (base : Base) (records waiting : List Entry) → B.BatchJournal.has self.old.journal base records waiting
-            → (parts : List Part) × Takes B.BatchJournal ⊥ self.old self.new base records waiting parts × AreOf tenant parts × (IsTrue is_whole → Reaches parts tenant)) }
-        ensures err { OnErr result ((base : Base) (records waiting : List Entry) → B.BatchJournal.has self.old.journal base records waiting
-            → (parts : List Part) × Takes B.BatchJournal (B.BatchJournal.is_over self.new.journal) self.old self.new base records waiting parts × AreOf tenant parts) }
+    /// Stages what was noted of a trail, unless it is recorded further by now.
+    fn stage_trail(&mut self, trail: &NotedTrail) -> Result<(), JournalError>
+        ensures ok { OnOk result ∥ TakesParts B.BatchJournal ⊥ self.old self.new ∥₁ }
+        ensures err { OnErr result ∥ TakesParts B.BatchJournal (B.BatchJournal.is_over self.new.journal) self.old self.new ∥₁ }
+    {
+        self.journal.is_kept();
+        match self.is_recorded_to(trail.tenant, trail.recorded) {
+            true => self.stage_behind(trail),
+            false => Ok(()),
+        }
+    }
+
+    /// Stages what was noted of a trail. If the buffer hasn't the room, what is staged is committed first.
+    fn stage_behind(&mut self, trail: &NotedTrail) -> Result<(), JournalError>
+        requires { slice_get self.old.recorded.items trail.now.tenant ≡ Some trail.now.recorded }
+        ensures ok { OnOk result ∥ TakesParts B.BatchJournal ⊥ self.old self.new ∥₁ }
+        ensures err { OnErr result ∥ TakesParts B.BatchJournal (B.BatchJournal.is_over self.new.journal) self.old self.new ∥₁ }
+    {
+        self.make_room(trail.size())?;
+        let staged = self.stage_noted(trail.tenant, &trail.notes);
+        self.journal.is_kept();
+        match staged {
+            Ok(_) => Ok(()),
+            Err(error) => Err(error),
+        }
+    }
+
+    /// Commits what is staged if the buffer hasn't room for so many bytes more.
+    fn make_room(&mut self, size: usize) -> Result<(), JournalError>
+        ensures ok { OnOk result ∥ TakesParts B.BatchJournal ⊥ self.old self.new ∥₁ }
+        ensures err { OnErr result ∥ TakesParts B.BatchJournal (B.BatchJournal.is_over self.new.journal) self.old self.new ∥₁ }
+        ensures counts { self.new.recorded ≡ self.old.recorded }
+    {
+        self.journal.is_kept();
+        match self.journal.room() < size {
+            true => self.commit(),
+            false => Ok(()),
+        }
+    }
+
+    /// True if each of these ends is recorded.
+    fn has_all(&self, ends: &[TrailEnd]) -> bool
+        ensures { IsTrue result → All (λ (end : ItsEnd). slice_get self.now.recorded.items end.tenant ≡ Some end.reach) ends.now }
+    {
+        for end in ends {
+            match self.is_recorded_to(end.tenant, end.reach) {
+                true => {}
+                false => return false,
+            }
+        }
+        true
+    }
+
+    /// True if a tenant is recorded just so far.
+    pub(crate) fn is_recorded_to(&self, tenant: u32, reach: RecordedReach) -> bool
+        ensures { IsTrue result ↔ slice_get self.now.recorded.items tenant ≡ Some reach }
     {
         let place = tenant as usize;
         if place >= self.recorded.len() {
-            // a host has a tenant of each number below its count
-            self.journal.is_kept();
-            return Err(JournalError::Spent);
+            return false;
         }
-        let Some(room) = self.journal.room().checked_sub(RENEWAL_SIZE) else {
-            self.journal.is_kept();
-            return Ok(false);
-        };
-        let mut notes = EntryReader {
-            start: RecordingStart {
-                reach: self.recorded[place],
-                is_renewed: false,
-            },
-            room,
-            list: Vec::new(self.alloc),
-            reach: ReadReach::Nowhere,
-        };
-        let _is_there = host.read(rt, tenant, &mut notes);
-        let staged = self.stage_noted(tenant, &notes);
-        self.journal.is_kept();
-        staged
+        self.recorded[place].equals(reach)
     }
 
     /// Stages the steps that were read. True if none is left.
@@ -168,6 +183,7 @@ impl<B: BatchJournal> JournalWriter<B> {
             × B.BatchJournal.has self.new.journal base (records ++ waiting) []) }
         ensures err { OnErr result ((base : Base) (records waiting : List Entry) → B.BatchJournal.has self.old.journal base records waiting
             → Takes B.BatchJournal (B.BatchJournal.is_over self.new.journal) self.old self.new base records waiting []) }
+        ensures counts { self.new.recorded ≡ self.old.recorded }
     {
         self.journal.commit()
     }

@@ -1,5 +1,5 @@
 //! How far the volumes of a tenant's life are recorded.
-ghost use Rattle.std.specs.Prelude.{◌≡◌, ◌^◌, ◌<◌, Bool, IfNone, IfSome, SomeIff};
+ghost use Rattle.std.specs.Prelude.{◌≡◌, ◌^◌, ◌<◌, ◌↔◌, Bool, IfNone, IfSome, IsTrue, SomeIff};
 ghost use Rattle.sb_durable.specs.Recording.{GoesOn, HasRenewed, first_reach, renewed};
 ghost use Rattle.sb_durable.specs.declared.recorded_reach.RecordedReach.{RecordedReach as ItsReach};
 
@@ -26,6 +26,13 @@ impl RecordedReach {
             },
             entries: 0,
         }
+    }
+
+    /// True if it is the same place.
+    pub(crate) fn equals(self, other: RecordedReach) -> bool
+        ensures { IsTrue result ↔ self ≡ other }
+    {
+        self.volume == other.volume && self.entries == other.entries
     }
 
     /// Behind the opening of the next volume, where this one ends here. None where a count has no room.

@@ -1,33 +1,56 @@
 //! What threads share to record what they are about to answer.
-ghost use Rattle.std.specs.Prelude.{◌≡◌, IsTrue, OnOk};
-ghost use Rattle.sb_durable.specs.RecordedTrails.{AreKept, HasEach};
+ghost use Rattle.std.specs.Prelude.{◌≡◌, ◌++◌, ◌∷◌, [], IfOk, IsTrue, OnOk};
+ghost use Rattle.std.specs.List.{All};
+ghost use Rattle.sb_durable.specs.EntryReaders.{EndsAt, IsEndOf};
+ghost use Rattle.sb_durable.specs.RecordedTrails.{AreKept, ends_of};
+ghost use Rattle.sb_durable.specs.declared.noted_trail.TrailEnd.{TrailEnd as ItsEnd};
 
 use crate::journal_writer::JournalWriter;
+use crate::noted_trail::{NotedTrail, TrailEnd};
 use crate::{BatchJournal, JournalError, RecordedReach};
 use sb_host::Lending;
-use std::alloc::Global;
+use std::alloc::{AllocError, Global};
 use std::mem;
 use std::sync::{Mutex, Wait};
 
-/// Records the trails of a host's tenants in a journal.
+/// Records the trails of a host's tenants in a journal. Nobody reads a tenant while the journal is locked, so who waits for
+/// a tenant keeps no other one waiting.
 #[derive(Drop)]
 pub struct Recorder<H: Lending, B> {
     alloc: Global,
     host: H,
     journal_writer: Mutex<JournalWriter<B>>,
+    /// How far each tenant is recorded, for those that haven't locked the journal: so far or further.
+    reaches: Mutex<Vec<RecordedReach>>,
     callers: Mutex<Callers>,
 }
 
-/// The tenants of all calls that wait for the journal.
+/// What all calls that wait for the journal have read.
 #[derive(Drop)]
 struct Callers {
-    tenants: Vec<u32>,
+    trails: Vec<NotedTrail>,
 }
 
-impl<H: Lending, B: BatchJournal> Recorder<H, B> {
-    /// A recorder of this host in this journal, which has each tenant so far.
-    pub fn new(alloc: Global, host: H, journal: B, recorded: Vec<RecordedReach>) -> Recorder<H, B> {
-        Recorder {
+/// What a call has read of its tenants.
+#[derive(Drop)]
+struct ReadTrails {
+    trails: Vec<NotedTrail>,
+    ends: Vec<TrailEnd>,
+    /// The trail of each tenant was read to its end.
+    are_whole: bool,
+}
+
+impl<H: Lending, B: BatchJournal + Drop> Recorder<H, B> {
+    /// A recorder of this host in this journal, which has each tenant so far. Error: out of memory.
+    pub fn new(
+        alloc: Global,
+        host: H,
+        journal: B,
+        recorded: Vec<RecordedReach>,
+    ) -> Result<Recorder<H, B>, AllocError> {
+        let mut reaches = Vec::new(alloc);
+        reaches.extend_from_slice(&recorded)?;
+        Ok(Recorder {
             alloc,
             host,
             journal_writer: Mutex::new(JournalWriter {
@@ -35,87 +58,165 @@ impl<H: Lending, B: BatchJournal> Recorder<H, B> {
                 journal,
                 recorded,
             }),
+            reaches: Mutex::new(reaches),
             callers: Mutex::new(Callers {
-                tenants: Vec::new(alloc),
+                trails: Vec::new(alloc),
             }),
-        }
+        })
     }
+}
 
+impl<H: Lending, B: BatchJournal> Recorder<H, B> {
     /// Records all entries of these tenants' trails, and syncs the journal, which then goes on in a further file where its
     /// file is full. A tenant has to be recorded before it is renewed (else: Unrecorded, and nothing of it is written from
     /// then on). After an error other than that and want of memory each further call fails and writes nothing.
     pub fn keep<T: Wait>(&self, rt: &T, tenants: &[u32]) -> Result<(), JournalError>
         ensures { OnOk result (AreKept B.BatchJournal tenants.now) }
     {
-        let place = self.join(rt, tenants);
+        for _ in rt.forever() {
+            if self.keep_some(rt, tenants)? {
+                return Ok(());
+            }
+        }
+        unreachable!()
+    }
+
+    /// Records what is read of these trails. True if that is all of them; else another call has recorded some of it first,
+    /// or it is too much for a batch.
+    fn keep_some<T: Wait>(&self, rt: &T, tenants: &[u32]) -> Result<bool, JournalError>
+        ensures { IfOk result (λ is_kept. IsTrue is_kept → AreKept B.BatchJournal tenants.now) }
+    {
+        let read = self.read(rt, tenants)?;
+        let ReadTrails {
+            trails,
+            ends,
+            are_whole,
+        } = read;
+        self.join(rt, trails)?;
+        let is_kept = self.record(rt, &ends)?;
+        match are_whole {
+            true => Ok(is_kept),
+            false => Ok(false),
+        }
+    }
+
+    /// Reads what these trails have beyond the journal.
+    fn read<T: Wait>(&self, rt: &T, tenants: &[u32]) -> Result<ReadTrails, JournalError>
+        ensures { IfOk result (λ read. IsTrue read.are_whole → (ends_of read.ends.items ≡ tenants.now)
+            × All (λ (end : ItsEnd). IsEndOf end.tenant end.reach) read.ends.items) }
+    {
+        let mut read = ReadTrails {
+            trails: Vec::new(self.alloc),
+            ends: Vec::new(self.alloc),
+            are_whole: true,
+        };
+        for tenant in tenants {
+            self.read_one(rt, *tenant, &mut read)?;
+        }
+        Ok(read)
+    }
+
+    /// Reads what a trail has beyond the journal, behind what was read of others. A trail that doesn't go on where it was
+    /// recorded isn't whole: it may be recorded further by now.
+    fn read_one<T: Wait>(
+        &self,
+        rt: &T,
+        tenant: u32,
+        read: &mut ReadTrails,
+    ) -> Result<(), JournalError>
+        ensures { OnOk result (IsTrue read.new.are_whole → (end : ItsEnd) × IsTrue read.old.are_whole × (end.tenant ≡ tenant)
+            × IsEndOf end.tenant end.reach × (read.new.ends.items ≡ read.old.ends.items ++ end ∷ [])) }
+    {
+        let reach = self.reach_of(rt, tenant)?;
+        match NotedTrail::read(rt, self.alloc, self.host, tenant, reach) {
+            Ok(trail) => add(read, trail),
+            Err(JournalError::Unrecorded) if !self.is_recorded_to(rt, tenant, reach) => {
+                read.are_whole = false;
+                Ok(())
+            }
+            Err(error) => Err(error),
+        }
+    }
+
+    /// How far a tenant is recorded.
+    fn reach_of<T: Wait>(&self, rt: &T, tenant: u32) -> Result<RecordedReach, JournalError> {
+        let reaches = self.reaches.lock(rt);
+        match reaches.get(tenant as usize) {
+            Some(reach) => Ok(*reach),
+            // a host has a tenant of each number below its count
+            None => Err(JournalError::Spent),
+        }
+    }
+
+    /// True if a tenant is recorded just so far. It waits for the journal.
+    fn is_recorded_to<T: Wait>(&self, rt: &T, tenant: u32, reach: RecordedReach) -> bool {
+        let journal_writer = self.journal_writer.lock(rt);
+        journal_writer.is_recorded_to(tenant, reach)
+    }
+
+    /// Adds what was read to what waits.
+    fn join<T: Wait>(&self, rt: &T, trails: Vec<NotedTrail>) -> Result<(), JournalError> {
+        let mut callers = self.callers.lock(rt);
+        for trail in trails {
+            callers.trails.push(trail)?;
+        }
+        Ok(())
+    }
+
+    /// Records all that waits, and syncs the journal. True if each of these ends is recorded then.
+    fn record<T: Wait>(&self, rt: &T, ends: &[TrailEnd]) -> Result<bool, JournalError>
+        ensures { IfOk result (λ is_kept. IsTrue is_kept → All (λ (end : ItsEnd). IsEndOf end.tenant end.reach) ends.now → AreKept B.BatchJournal (ends_of ends.now)) }
+    {
         let mut journal_writer = self.journal_writer.lock(rt);
         // one commit serves all that wait
         let callers = self.take(rt);
-        let kept = catch_up_both(
-            rt,
-            self.host,
-            &mut journal_writer,
-            &callers.tenants,
-            place,
-            tenants,
-        );
+        let kept = journal_writer.bring_up(&callers.trails, ends);
+        self.publish(rt, &journal_writer, &callers.trails);
         if kept.is_ok() {
             journal_writer.journal.turn();
         }
         kept
     }
 
-    /// Adds these tenants to those that wait. Returns their place in the list, or None without memory.
-    fn join<T: Wait>(&self, rt: &T, tenants: &[u32]) -> Option<usize> {
-        let mut callers = self.callers.lock(rt);
-        let place = callers.tenants.len();
-        match callers.tenants.extend_from_slice(tenants) {
-            Ok(()) => Some(place),
-            Err(_) => None,
-        }
-    }
-
-    /// The tenants that wait.
+    /// What waits.
     fn take<T: Wait>(&self, rt: &T) -> Callers {
         let mut callers = self.callers.lock(rt);
         let none = Callers {
-            tenants: Vec::new(self.alloc),
+            trails: Vec::new(self.alloc),
         };
         mem::replace(&mut *callers, none)
     }
+
+    /// Tells how far the tenants of these trails are recorded.
+    fn publish<T: Wait>(&self, rt: &T, journal_writer: &JournalWriter<B>, trails: &[NotedTrail]) {
+        let mut reaches = self.reaches.lock(rt);
+        for trail in trails {
+            let place = trail.tenant as usize;
+            if let (Some(told), Some(reach)) = (
+                reaches.get_mut(place),
+                journal_writer.recorded.get(place),
+            ) {
+                *told = *reach;
+            }
+        }
+    }
 }
 
-/// Records the trails of the tenants that wait, and those of the caller unless they are in that list at this place.
-fn catch_up_both<H: Lending, B: BatchJournal, T: Wait>(
-    rt: &T,
-    host: H,
-    journal_writer: &mut JournalWriter<B>,
-    waiting: &[u32],
-    place: Option<usize>,
-    own: &[u32],
-) -> Result<(), JournalError>
-    ensures { OnOk result (AreKept B.BatchJournal own.now) }
+/// Adds a trail to what was read, and its end if all of it was.
+fn add(read: &mut ReadTrails, trail: NotedTrail) -> Result<(), JournalError>
+    ensures { OnOk result (IsTrue read.new.are_whole → (end : ItsEnd) × IsTrue read.old.are_whole × (end.tenant ≡ trail.tenant)
+        × EndsAt trail.notes end.reach × (read.new.ends.items ≡ read.old.ends.items ++ end ∷ [])) }
 {
-    match journal_writer.catch_up(rt, host, waiting) {
-        Ok(()) => {}
-        Err(error) => return Err(error),
+    let end = trail.end();
+    read.trails.push(trail)?;
+    match end {
+        Some(end) => {
+            read.ends.push(end)?;
+            Ok(())
+        }
+        None => {
+            read.are_whole = false;
+            Ok(())
+        }
     }
-    if stand_at(waiting, place, own) {
-        return Ok(());
-    }
-    // another call has taken them, and may have lacked memory
-    journal_writer.catch_up(rt, host, own)
-}
-
-/// True if these tenants stand in a list from a place on.
-fn stand_at(list: &[u32], place: Option<usize>, tenants: &[u32]) -> bool
-    ensures { IsTrue result → HasEach list.now tenants.now }
-{
-    let Some(place) = place else {
-        return false;
-    };
-    if place > list.len() {
-        return false;
-    }
-    list[place..].starts_with(tenants)
 }

@@ -83,7 +83,7 @@ pub(crate) fn check_end<D: Disk + Drop>(reader: RowReader<D>) -> Result<(), Fold
 }
 
 /// The settings in the head of a segment's file.
-fn head_of_file<D: Disk + Drop, F: SegmentFiles<D>>(
+pub(crate) fn head_of_file<D: Disk + Drop, F: SegmentFiles<D>>(
     alloc: Global,
     files: &F,
     number: u64,

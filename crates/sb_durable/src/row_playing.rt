@@ -99,7 +99,10 @@ impl<
                     maker: self,
                     limit,
                 };
-                Ok((Recorder::new(alloc, host, journal, recorded), stubs))
+                match Recorder::new(alloc, host, journal, recorded) {
+                    Ok(recorder) => Ok((recorder, stubs)),
+                    Err(_) => Err(FolderError::Memory),
+                }
             }
             Err(error) => Err(error),
         }

@@ -9,9 +9,10 @@ ghost use Rattle.sb_durable.specs.Segment.{BindsAll, Knows, device_of, head_of};
 use crate::Head;
 use crate::folder::FolderError;
 use crate::replay::{PlayFault, Plays, Progress};
+use crate::row_check::head_of_file;
 use crate::row_journal::settings_bytes;
 use crate::row_replay::play_segment;
-use crate::segment::{RowError, RowReader, SegmentError};
+use crate::segment::{RowError, RowFault, RowReader, SegmentError};
 use sqlite_disk::Disk;
 use std::alloc::Global;
 use std::sync::Wait;
@@ -108,7 +109,26 @@ fn oldest<D: Disk + Drop, F: SegmentFiles<D>>(
     let file = files.open_file(number)?;
     match RowReader::first(alloc, file, number, &settings_bytes(head)) {
         Ok(reader) => Ok(reader),
+        Err((RowError::Fault(RowFault::OtherSettings), _file)) => {
+            Err(other_settings(alloc, files, number))
+        }
         Err((why, _file)) => Err(refused(number, why)),
+    }
+}
+
+/// A file that has other settings than those that are asked for: which.
+fn other_settings<D: Disk + Drop, F: SegmentFiles<D>>(
+    alloc: Global,
+    files: &F,
+    number: u64,
+) -> FolderError {
+    match head_of_file(alloc, files, number) {
+        Ok(found) => FolderError::OtherSettings {
+            number,
+            tenants: found.tenants,
+            bound: found.bound,
+        },
+        Err(error) => error,
     }
 }
 

@@ -3,10 +3,11 @@ use Rattle.std.specs.Prelude.{ℕ, List, [], ◌∷◌, Option, Some, None, code
 use Rattle.clap.specs.Words.{Text}
 use Rattle.sb_words.specs.Meanings.{meaning_of}
 use Rattle.sb_words.specs.declared.argument.Argument.{Argument}
-use Rattle.sb_words.specs.declared.argument.Argument.TheVariants.{Old, New, Tenant, Load, DumpTo, Into, Journal, Sync, Keys, Status, Tenants, Bound, Cells, Workers, Port, Connections, Idle, IdleTransaction, FirstTenant, TenantMemory, Segment, Log, Slow, Renew, UntilInputEnds}
+use Rattle.sb_words.specs.declared.argument.Argument.TheVariants.{Old, New, Action, Folder, Tenant, Load, DumpTo, Into, Journal, Sync, Keys, Status, Tenants, Bound, Cells, Workers, Port, Connections, Idle, IdleTransaction, FirstTenant, TenantMemory, Segment, Log, Slow, Renew, UntilInputEnds}
 use Rattle.sb_words.specs.declared.argument.NumberRange.{NumberRange}
 use Rattle.sb_words.specs.declared.argument.Verb.{Verb}
 use Rattle.sb_words.specs.declared.argument.Verb.TheVariants.{Run, Serve, Replay, Parse, Dump, Compact, Key}
+use Rattle.sb_words.specs.declared.argument.Verb.TheVariants as verb
 
 -- a command's word
 abbrev pub word_of : Verb → Text
@@ -16,10 +17,11 @@ word_of Replay = codes "replay"
 word_of Parse = codes "parse"
 word_of Dump = codes "dump"
 word_of Compact = codes "compact"
+word_of verb.Journal = codes "journal"
 word_of Key = codes "key"
 
 abbrev pub verbs : List Verb
-verbs = Run ∷ Serve ∷ Replay ∷ Parse ∷ Dump ∷ Compact ∷ Key ∷ []
+verbs = Run ∷ Serve ∷ Replay ∷ Parse ∷ Dump ∷ Compact ∷ verb.Journal ∷ Key ∷ []
 
 -- the command of a word
 abbrev pub verb_of : Text → Option Verb
@@ -27,7 +29,7 @@ verb_of word = meaning_of word (map (λ v. (word_of v, v)) verbs)
 
 -- files first, then options, in the order in which they are looked at
 abbrev pub parts : List Argument
-parts = Old ∷ New ∷ Tenants ∷ Bound ∷ Tenant ∷ Into ∷ Cells ∷ Workers ∷ Port ∷ Connections ∷ Idle ∷ IdleTransaction ∷ FirstTenant ∷ TenantMemory ∷ Load ∷ DumpTo
+parts = Old ∷ New ∷ Action ∷ Folder ∷ Tenants ∷ Bound ∷ Tenant ∷ Into ∷ Cells ∷ Workers ∷ Port ∷ Connections ∷ Idle ∷ IdleTransaction ∷ FirstTenant ∷ TenantMemory ∷ Load ∷ DumpTo
     ∷ Journal ∷ Sync ∷ Segment ∷ Renew ∷ Keys ∷ Status ∷ Log ∷ Slow ∷ UntilInputEnds ∷ []
 
 -- the parts that a command has
@@ -40,11 +42,14 @@ parts_of Replay = Tenants ∷ Bound ∷ Cells ∷ Workers ∷ []
 parts_of Parse = []
 parts_of Dump = Tenants ∷ Bound ∷ Tenant ∷ Into ∷ []
 parts_of Compact = Old ∷ New ∷ Tenants ∷ Bound ∷ []
+parts_of verb.Journal = Action ∷ Folder ∷ []
 parts_of Key = []
 
 abbrev pub name_of : Argument → Text
 name_of Old = codes "old"
 name_of New = codes "new"
+name_of Action = codes "action"
+name_of Folder = codes "folder"
 name_of Tenant = codes "tenant"
 name_of Load = codes "load"
 name_of DumpTo = codes "dump-to"

@@ -3,6 +3,7 @@ use Rattle.std.specs.Prelude.{◌≡◌, ◌≢◌, ◌≤◌, ◌⊎◌, ⊤, �
 use Rattle.std.specs.Str.Parse.{IsNumeral, digits_value, without_leading_plus}
 use Rattle.clap.specs.Words.{Row, Text, first_of}
 use Rattle.sb_words.specs.Arguments.{name_of, parts, range_of}
+use Rattle.sb_words.specs.JournalActions.{journal_action_of}
 use Rattle.sb_words.specs.RenewPolicies.{renew_policy_of, usual_policy}
 use Rattle.sb_words.specs.Requests.{Beginning, Request, fresh, folder, journal}
 use Rattle.sb_words.specs.Requests as request
@@ -58,6 +59,7 @@ LacksNumber (Some range) text = IsNumber range text → ⊥
 -- there is no such word, or it doesn't go with what else is given: one tenant with all, files with a journal, a sync or a segment without one
 abbrev pub LacksWord : List Row → Argument → Text → Type 0
 LacksWord rows part.Log word = severity_of word ≡ None
+LacksWord rows part.Action word = journal_action_of word ≡ None
 LacksWord rows part.Renew word = renew_policy_of word ≡ None
 LacksWord rows part.Into path = text_at rows part.Tenant ≢ None
 LacksWord rows part.Journal file = text_at rows part.Load ≢ None
@@ -167,6 +169,7 @@ asked_by verb.Replay rows = request.replay (hosting_in rows)
 asked_by verb.Parse rows = request.parse
 asked_by verb.Dump rows = request.dump (dumping_in rows) (text_at rows part.Into)
 asked_by verb.Compact rows = request.compact (run_in rows) (path_in rows part.Old) (path_in rows part.New)
+asked_by verb.Journal rows = request.check (path_in rows part.Folder)
 asked_by verb.Key rows = request.key
 
 -- all parts are allowed, and it is what the command asks for

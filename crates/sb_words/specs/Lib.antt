@@ -2,6 +2,7 @@ pub mod Meanings
 pub mod Severities
 pub mod Syncs
 pub mod RenewPolicies
+pub mod JournalActions
 pub mod Arguments
 pub mod Requests
 pub mod Within

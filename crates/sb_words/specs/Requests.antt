@@ -20,7 +20,7 @@ pub data Beginning : Type 0 where
   journal : Text → Syncs → Beginning
 
 -- A server has the folder to which it writes its tenants behind its beginning, and its file of keys; a dump the folder for all tenants; a compaction the
--- path of the old journal and that of the new one.
+-- path of the old journal and that of the new one; a check the folder of the journal.
 pub data Request : Type 0 where
   run : Run → Beginning → Request
   serve : ServerOptions → Beginning → Option Text → Option Text → Request
@@ -28,6 +28,7 @@ pub data Request : Type 0 where
   parse : Request
   dump : Dumping → Option Text → Request
   compact : Run → Text → Text → Request
+  check : Text → Request
   key : Request
 
 -- a server is asked for by numbers alone, with no status pages, and renews no tenant
@@ -52,4 +53,5 @@ request_of (invocation.Replay hosting) = replay hosting
 request_of invocation.Parse = parse
 request_of (invocation.Dump words) = dump words.dump (text_of words.into)
 request_of (invocation.Compact words) = compact words.run words.old.now words.new.now
+request_of (invocation.Check path) = check path.now
 request_of invocation.Key = key

@@ -30,6 +30,7 @@ IsWithin (invocation.Replay h) = AreHost h
 IsWithin invocation.Parse = ⊤
 IsWithin (invocation.Dump words) = AreDump words.dump
 IsWithin (invocation.Compact words) = AreRun words.run
+IsWithin (invocation.Check path) = ⊤
 IsWithin invocation.Key = ⊤
 
 abbrev pub AreWithin : Asked → Type 0

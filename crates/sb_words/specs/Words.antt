@@ -7,7 +7,7 @@ use Rattle.clap.specs.declared.error.kind.ErrorKind.TheVariants.{DisplayHelp, Di
 use Rattle.sb_words.specs.Asking.{AsksBy, IsFirstGiven, IsFirstUnfit, NoneGiven}
 use Rattle.sb_words.specs.Arguments.{name_of, parts_of, verb_of, verbs, word_of}
 use Rattle.sb_words.specs.declared.argument.Argument.{Argument}
-use Rattle.sb_words.specs.declared.argument.Argument.TheVariants.{Old, New, UntilInputEnds}
+use Rattle.sb_words.specs.declared.argument.Argument.TheVariants.{Old, New, Action, Folder, UntilInputEnds}
 use Rattle.sb_words.specs.declared.argument.Unfit.{Unfit}
 use Rattle.sb_words.specs.declared.argument.Verb.{Verb}
 use Rattle.sb_words.specs.declared.argument.Verb.TheVariants.{Run}
@@ -19,10 +19,12 @@ use Rattle.sb_words.specs.declared.words.Asked.TheVariants.{For, Help, Version, 
 abbrev pub valued : Text → Rule
 valued name = record (new_rule name) { value_names = 1 }
 
--- an option `--name` with a value, one without, and the files that `compact` needs
+-- an option `--name` with a value, one without, and what `compact` and `journal` need behind them
 abbrev pub rule_of : Argument → Rule
 rule_of Old = record (valued (codes "old")) { required = true }
 rule_of New = record (valued (codes "new")) { required = true }
+rule_of Action = record (valued (codes "action")) { required = true }
+rule_of Folder = record (valued (codes "folder")) { required = true }
 rule_of UntilInputEnds = record (new_rule (codes "until-input-ends")) { long = Some (codes "until-input-ends"); action = Some SetTrue }
 rule_of p = record (valued (name_of p)) { long = Some (name_of p) }
 

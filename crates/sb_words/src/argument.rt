@@ -11,14 +11,17 @@ pub enum Verb {
     Parse,
     Dump,
     Compact,
+    Journal,
     Key,
 }
 
-/// A part of a command: a file behind it, or an option.
+/// A part of a command: a word behind it, or an option.
 #[derive(Clone, Copy, Debug)]
 pub enum Argument {
     Old,
     New,
+    Action,
+    Folder,
     Tenant,
     Load,
     DumpTo,
@@ -45,20 +48,23 @@ pub enum Argument {
 }
 
 /// The commands, in the order in which help lists them.
-pub(crate) const COMMANDS: [Verb; 7] = [
+pub(crate) const COMMANDS: [Verb; 8] = [
     Verb::Run,
     Verb::Serve,
     Verb::Replay,
     Verb::Parse,
     Verb::Dump,
     Verb::Compact,
+    Verb::Journal,
     Verb::Key,
 ];
 
 /// All parts, in the order in which they are looked at.
-pub(crate) const PARTS: [Argument; 25] = [
+pub(crate) const PARTS: [Argument; 27] = [
     Argument::Old,
     Argument::New,
+    Argument::Action,
+    Argument::Folder,
     Argument::Tenants,
     Argument::Bound,
     Argument::Tenant,
@@ -142,6 +148,9 @@ pub(crate) const COMPACT_PARTS: [Argument; 4] = [
     Argument::Bound,
 ];
 
+/// The parts of `journal`.
+pub(crate) const JOURNAL_PARTS: [Argument; 2] = [Argument::Action, Argument::Folder];
+
 /// The numbers that an option may have, and the one that it has where it isn't given.
 #[derive(Clone, Copy, Debug)]
 pub struct NumberRange {
@@ -162,6 +171,7 @@ impl Verb {
             Verb::Parse => "parse",
             Verb::Dump => "dump",
             Verb::Compact => "compact",
+            Verb::Journal => "journal",
             Verb::Key => "key",
         }
     }
@@ -175,6 +185,8 @@ impl Argument {
         match self {
             Argument::Old => "old",
             Argument::New => "new",
+            Argument::Action => "action",
+            Argument::Folder => "folder",
             Argument::Tenant => "tenant",
             Argument::Load => "load",
             Argument::DumpTo => "dump-to",

@@ -7,7 +7,7 @@ ghost use Rattle.sb_words.specs.Arguments.{range_of};
 
 use crate::argument::{Argument, PARTS, Unfit};
 use crate::given::text_at;
-use crate::meaning::{RENEW_POLICIES, SEVERITIES, SYNCS, meaning_of};
+use crate::meaning::{JOURNAL_ACTIONS, RENEW_POLICIES, SEVERITIES, SYNCS, meaning_of};
 use crate::number::number;
 use clap::ArgMatches;
 
@@ -95,6 +95,7 @@ fn lacks_word(matches: &ArgMatches<'_>, part: Argument, text: &str) -> bool
 {
     match part {
         Argument::Log => meaning_of(text, &SEVERITIES).is_none(),
+        Argument::Action => meaning_of(text, &JOURNAL_ACTIONS).is_none(),
         Argument::Renew => meaning_of(text, &RENEW_POLICIES).is_none(),
         Argument::Into => text_at(matches, Argument::Tenant).is_some(),
         Argument::Journal => text_at(matches, Argument::Load).is_some(),

@@ -41,6 +41,7 @@ impl Verb {
                 "Answer the lines of standard input as `run` does, and write, in place\nof the replies, the lines that make a tenant again"
             }
             Verb::Compact => "Write the journal OLD anew, as short as it can be, to NEW",
+            Verb::Journal => "Read the journal in FOLDER from end to end, and tell what is there",
             Verb::Key => "Write the digest of the key on standard input, as a file of keys has it",
         }
     }
@@ -52,6 +53,8 @@ impl Argument {
         match self {
             Argument::Old => "The journal",
             Argument::New => "The path of the new one, where nothing is",
+            Argument::Action => "check: each digest is compared, and nothing is changed",
+            Argument::Folder => "The folder of its segments",
             Argument::Tenants => "Host the tenants 0 to N - 1: 1 to 256 [default: 16]",
             Argument::Bound => {
                 "The most rules that are considered at one assertion point:\n1 to 1000 [default: 1000]"
@@ -121,7 +124,8 @@ impl Argument {
         match self {
             Argument::Old => "OLD",
             Argument::New => "NEW",
-            Argument::Into | Argument::Load | Argument::DumpTo => "FOLDER",
+            Argument::Action => "ACTION",
+            Argument::Folder | Argument::Into | Argument::Load | Argument::DumpTo => "FOLDER",
             Argument::Journal => "PATH",
             Argument::Keys => "FILE",
             Argument::Idle | Argument::IdleTransaction => "SECONDS",

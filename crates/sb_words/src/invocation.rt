@@ -122,6 +122,8 @@ pub enum Invocation<'a> {
     Parse,
     Dump(DumpWords<'a>),
     Compact(CompactWords<'a>),
+    /// The journal in this folder is read from end to end.
+    Check(&'a str),
     /// The digest of a key.
     Key,
 }
@@ -169,6 +171,7 @@ fn asked_by<'a>(matches: &ArgMatches<'a>, verb: Verb) -> Invocation<'a>
             old: text_at(matches, Argument::Old).unwrap_or(""),
             new: text_at(matches, Argument::New).unwrap_or(""),
         }),
+        Verb::Journal => Invocation::Check(text_at(matches, Argument::Folder).unwrap_or("")),
         Verb::Key => Invocation::Key,
     }
 }

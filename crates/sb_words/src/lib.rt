@@ -7,6 +7,7 @@ mod fit;
 mod given;
 mod help;
 mod invocation;
+mod journal_action;
 mod laws;
 mod log;
 mod meaning;
@@ -24,6 +25,7 @@ pub use invocation::{
     CompactWords, DumpWords, Dumping, HostOptions, Invocation, JournalWords, Origin, Run, RunWords,
     ServeWords, ServerOptions,
 };
+pub use journal_action::JournalAction;
 pub use laws::words_ask_once;
 pub use log::Log;
 pub use refusal::{misplaced_line, refusal_line};

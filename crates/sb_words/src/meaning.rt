@@ -3,18 +3,20 @@ ghost use Rattle.std.specs.Prelude.{◌≡◌};
 ghost use Rattle.sb_words.specs.Meanings as spec;
 
 use crate::argument::Verb;
+use crate::journal_action::JournalAction;
 use crate::renew_policy::RenewPolicy;
 use crate::severity::Severity;
 use crate::syncs::Syncs;
 
 /// The commands, in the order in which help lists them.
-pub(crate) const VERBS: [(&str, Verb); 7] = [
+pub(crate) const VERBS: [(&str, Verb); 8] = [
     ("run", Verb::Run),
     ("serve", Verb::Serve),
     ("replay", Verb::Replay),
     ("parse", Verb::Parse),
     ("dump", Verb::Dump),
     ("compact", Verb::Compact),
+    ("journal", Verb::Journal),
     ("key", Verb::Key),
 ];
 
@@ -37,6 +39,9 @@ pub(crate) const RENEW_POLICIES: [(&str, RenewPolicy); 2] = [
     ("auto", RenewPolicy::Auto),
     ("never", RenewPolicy::Never),
 ];
+
+/// What is done with a journal.
+pub(crate) const JOURNAL_ACTIONS: [(&str, JournalAction); 1] = [("check", JournalAction::Check)];
 
 /// What a word stands for, if it is one of the table.
 pub(crate) fn meaning_of<T: Copy>(word: &str, table: &[(&str, T)]) -> Option<T>

@@ -40,6 +40,7 @@ fn allowed<'a>(part: Argument) -> &'a str
     match part {
         Argument::Tenants => "1 to 256",
         Argument::Bound => "1 to 1000",
+        Argument::Action => "check",
         Argument::Tenant => "0 to 255",
         Argument::Into => "a folder, without --tenant",
         Argument::Cells | Argument::Workers => "1 to 16",
@@ -63,7 +64,9 @@ fn push_part(out: &mut Vec<u8>, unfit: Unfit<'_>) -> Result<(), AllocError>
     ensures { OnOk result (out.new.items ≡ out.old.items ++ part_text unfit.entry.part unfit.entry.text.now) }
 {
     match unfit.part {
-        Argument::Old | Argument::New => push_both(out, "the word ", unfit.text),
+        Argument::Old | Argument::New | Argument::Action | Argument::Folder => {
+            push_both(out, "the word ", unfit.text)
+        }
         Argument::UntilInputEnds => push_both(out, "--until-input-ends", ""),
         option => push_option(out, option, unfit.text),
     }

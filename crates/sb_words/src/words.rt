@@ -6,8 +6,8 @@ ghost use Rattle.sb_words.specs.Within.{AreWithin};
 ghost use Rattle.sb_words.specs.Words.{IsAsked, IsAskedBy, IsAskedOf, command_of, rule_of, starhost, with_commands, with_parts};
 
 use crate::argument::{
-    Argument, COMMANDS, COMPACT_PARTS, DUMP_PARTS, REPLAY_PARTS, RUN_PARTS, SERVE_PARTS, Unfit,
-    Verb,
+    Argument, COMMANDS, COMPACT_PARTS, DUMP_PARTS, JOURNAL_PARTS, REPLAY_PARTS, RUN_PARTS,
+    SERVE_PARTS, Unfit, Verb,
 };
 use crate::fit::first_given;
 use crate::help::{ABOUT, EXAMPLES};
@@ -128,6 +128,7 @@ fn command_of<'a>(alloc: Global, verb: Verb) -> Result<Command<'a>, AllocError>
         Verb::Replay => with_all(alloc, command, &REPLAY_PARTS),
         Verb::Dump => with_all(alloc, command, &DUMP_PARTS),
         Verb::Compact => with_all(alloc, command, &COMPACT_PARTS),
+        Verb::Journal => with_all(alloc, command, &JOURNAL_PARTS),
         Verb::Parse | Verb::Key => Ok(command),
     }
 }
@@ -158,7 +159,7 @@ fn with_part<'a>(
     command.arg(arg_of(alloc, part))
 }
 
-/// An option with a value or without one, or a file.
+/// An option with a value or without one, or a word behind the command.
 fn arg_of<'a>(alloc: Global, part: Argument) -> Arg<'a>
     ensures rule { rule_of_arg result ≡ rule_of part }
     ensures local { result.global ≡ false }
@@ -166,7 +167,9 @@ fn arg_of<'a>(alloc: Global, part: Argument) -> Arg<'a>
     let name = part.name();
     let arg = Arg::new(alloc, name).help(part.help());
     match part {
-        Argument::Old | Argument::New => arg.value_name(part.value_name()).required(true),
+        Argument::Old | Argument::New | Argument::Action | Argument::Folder => {
+            arg.value_name(part.value_name()).required(true)
+        }
         Argument::UntilInputEnds => {
             let flag = arg.long(name).help_heading(part.heading());
             flag.action(ArgAction::SetTrue)

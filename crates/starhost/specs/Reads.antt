@@ -1,11 +1,12 @@
 -- Machine: what is had of what is asked for where the status is 0, and how it ends with any status.
 use Rattle.std.specs.Prelude.{◌≡◌, ◌⊎◌, ℕ, Bool, List, Option, None, Some, Result, IfErr, IfSome, ⊤}
+use Rattle.std.specs.Io.KnownBytes.{Appends}
 use Rattle.sb_replay.specs.Replay.{Fails, Replays}
 use Rattle.sb_replay.specs.declared.error.ReplayError.{ReplayError}
 use Rattle.sb_wire.specs.Stream.{AnswersFresh, MayFail, OnWriteFault}
 use Rattle.sb_wire.specs.declared.fault.StreamError.{StreamError}
 use Rattle.sb_wire.specs.declared.summary.Summary.{Summary}
-use Rattle.sb_words.specs.Requests.{Beginning, IsPlain, Request, compact, dump, folder, fresh, journal, key, parse, replay, run, serve}
+use Rattle.sb_words.specs.Requests.{Beginning, IsPlain, Request, check, compact, dump, folder, fresh, journal, key, parse, replay, run, serve}
 use Rattle.sb_keys.specs.KeyDigests.{TellsDigest}
 use Rattle.starhost.specs.Commands.{GoesFresh, Tells, TellsRun, line_of, status_of}
 use Rattle.sb_backup.specs.Dumps.{DumpsInput, HaveScripts, RefusesDump, RefusesDumps}
@@ -37,6 +38,7 @@ module _ {R W : Type 0} (remaining : R → Option (List ℕ)) (contents : W → 
   Succeeds (dump d None) = WritesOf remaining contents reader writer after (DumpsInput d.run.tenants d.run.bound d.tenant)
   Succeeds (dump d (Some into)) = (after ≡ writer) × IfSome (remaining reader) (HaveScripts d.run.tenants d.run.bound)
   Succeeds (compact r old new) = ⊤
+  Succeeds (check path) = (line : List ℕ) × Appends (contents writer) (contents after) line
   Succeeds key = TellsDigest (remaining reader) (remaining rest) (contents writer) (contents after)
 
 module _ {R W E : Type 0} (fails : R → Type 0) (remaining : R → Option (List ℕ)) (refuses : W → Type 0) (contents : W → Option (List ℕ))
@@ -78,4 +80,5 @@ module _ {R W E : Type 0} (fails : R → Type 0) (remaining : R → Option (List
       (ended : Result (Unit {0}) ProgramFault) × TellsEnd denies told errors more ended status × (after ≡ writer)
       × IfErr ended (λ why. (e : BackupError) × (why ≡ Backup e) × IfSome (remaining reader) (λ input. RefusesDumps d.run.tenants d.run.bound input e))
   Goes (compact r old new) = (ended : Result (Unit {0}) ProgramFault) × TellsEnd denies told errors more ended status × (rest ≡ reader) × (after ≡ writer)
+  Goes (check path) = (ended : Result (Unit {0}) ProgramFault) × TellsEnd denies told errors more ended status × (rest ≡ reader)
   Goes key = (ended : Result (Unit {0}) ProgramFault) × TellsEnd denies told errors more ended status × IfErr ended RefusesDigest

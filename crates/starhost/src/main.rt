@@ -3,6 +3,7 @@
 
 mod fault;
 mod host_end;
+mod journal_check;
 mod journaled_server;
 mod keys;
 mod parse;

@@ -25,6 +25,7 @@ ghost use Rattle.starhost.specs.Reads.{Goes, Succeeds};
 ghost use Rattle.starhost.specs.Totals.{TellsServer};
 
 use crate::fault::tell_end;
+use crate::journal_check::check;
 use crate::parse::parse_lines;
 use crate::part_faults::{of_backup, of_digest, of_journal};
 use crate::refusal_lines::{refuse, refuse_misplaced, refuse_part, show, show_help};
@@ -162,6 +163,10 @@ fn answer<T: System + Sync, R: Source, W: Sink, E: Sink>(
             let log = EventLog::new(rt, Severity::Info);
             let ended = compact(rt, alloc, &log, asked);
             tell_end(alloc, of_journal(ended), &mut errors.sink)
+        }
+        Invocation::Check(folder) => {
+            let ended = check(rt, alloc, folder, writer);
+            tell_end(alloc, ended, &mut errors.sink)
         }
         Invocation::Key => {
             let ended = tell_digest(alloc, reader, writer);

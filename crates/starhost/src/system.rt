@@ -1,6 +1,6 @@
 //! What the program asks of the system.
 
-use sb_durable::SegmentFiles;
+use sb_durable::SegmentStorage;
 use std::fs::File;
 use std::net::{Net, TcpListener, TcpStream};
 use std::rt::{Clock, Env, Files};
@@ -19,7 +19,7 @@ pub trait System: Threads
     + Clone
     + Drop
     + Files<File = File>
-    + SegmentFiles {}
+    + SegmentStorage {}
 
 impl<
     T: Threads
@@ -32,5 +32,5 @@ impl<
         + Clone
         + Drop
         + Files<File = File>
-        + SegmentFiles,
+        + SegmentStorage,
 > System for T {}

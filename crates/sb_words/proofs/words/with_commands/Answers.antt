@@ -3,7 +3,7 @@ use Rattle.std.proofs.lemmas.Bool.{false≢true}
 use Rattle.clap.specs.Words.{App, app_of, with_subcommand}
 use Rattle.sb_words.specs.Words.{command_of, with_commands}
 use Rattle.sb_words.specs.declared.argument.Verb.{Verb}
-use Rattle.sb_words.specs.declared.argument.Verb.TheVariants.{Run, Serve, Replay, Parse, Dump, Compact, Key}
+use Rattle.sb_words.specs.declared.argument.Verb.TheVariants.{Run, Serve, Replay, Parse, Dump, Compact, Journal, Key}
 use Rattle.sb_words.proofs.Fitting.{split_at}
 use Rattle.sb_words.proofs.words.with_commands.Goals as goal
 
@@ -17,6 +17,7 @@ is_plain Replay = refl
 is_plain Parse = refl
 is_plain Dump = refl
 is_plain Compact = refl
+is_plain Journal = refl
 is_plain Key = refl
 
 third : (a b c d : Bool) → (a && (not b && (not c && d))) ≡ true → c ≡ false

@@ -39,6 +39,12 @@ returns-in-Compact-clause-succeeds g c = rw c.in-Compact.is (λ ok. tt)
 pub returns-in-Compact-clause-goes : goal.returns-in-Compact-clause-goes
 returns-in-Compact-clause-goes g c = rw c.in-Compact.is (c.of_journal.result, c.tell_end-in-Compact.ensures, refl, refl)
 
+pub returns-in-Check-clause-succeeds : goal.returns-in-Check-clause-succeeds
+returns-in-Check-clause-succeeds g c = rw c.in-Check.is (λ ok. went_well g.E.Sink.refuses g.E.Write.contents c.args.errors.now.sink c.tell_end-in-Check.new.errors c.check-ended.result c.tell_end-in-Check.result c.tell_end-in-Check.ensures ok c.check-ended.ensures)
+
+pub returns-in-Check-clause-goes : goal.returns-in-Check-clause-goes
+returns-in-Check-clause-goes g c = rw c.in-Check.is (c.check-ended.result, c.tell_end-in-Check.ensures, refl)
+
 pub returns-in-Key-clause-succeeds : goal.returns-in-Key-clause-succeeds
 returns-in-Key-clause-succeeds g c = rw c.in-Key.is (λ ok. went_well g.E.Sink.refuses g.E.Write.contents c.args.errors.now.sink c.tell_end-in-Key.new.errors c.of_digest.result c.tell_end-in-Key.result c.tell_end-in-Key.ensures ok (ok_digest _ c.tell_digest-ended.result c.of_digest.result c.of_digest.ensures c.tell_digest-ended.ensures))
 

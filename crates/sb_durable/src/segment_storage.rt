@@ -1,4 +1,4 @@
-//! What makes the files of segments, as a thread may be lent it: the bound `Files` itself stays with one thread.
+//! The storage of segments. A server lends it to its threads; the bound `Files` stays with one thread.
 ghost use Rattle.std.specs.Prelude.{IfOk, IsTrue};
 ghost use Rattle.sb_durable.specs.File.{may_be_used};
 
@@ -9,9 +9,9 @@ use std::alloc::Global;
 use std::fs;
 use std::fs::Files;
 
-/// Makes, opens and removes the files of segments.
-pub trait SegmentFiles {
-    /// As `Folder::make_segment`.
+/// Makes, opens and removes the files of segments in a folder.
+pub trait SegmentStorage {
+    /// Makes the file of the segment with this number. Errors: those of `Folder::make_segment`.
     fn make_segment<S: Start>(
         &self,
         alloc: Global,
@@ -21,7 +21,7 @@ pub trait SegmentFiles {
     ) -> Result<File<S>, FolderError>
         ensures { IfOk result (λ file. IsTrue (may_be_used S.Start file)) };
 
-    /// As `Folder::remove_segment`.
+    /// Removes the file of the segment with this number. Errors: those of `Folder::remove_segment`.
     fn remove_segment(
         &self,
         alloc: Global,
@@ -29,7 +29,7 @@ pub trait SegmentFiles {
         number: u64,
     ) -> Result<(), FolderError>;
 
-    /// As `Folder::reopen_segment`.
+    /// Opens the file of the segment with this number for its syncs. Errors: those of `Folder::reopen_segment`.
     fn reopen_segment(
         &self,
         alloc: Global,
@@ -38,7 +38,7 @@ pub trait SegmentFiles {
     ) -> Result<fs::File, FolderError>;
 }
 
-impl<R: Files<File = fs::File>> SegmentFiles for R {
+impl<R: Files<File = fs::File>> SegmentStorage for R {
     fn make_segment<S: Start>(
         &self,
         alloc: Global,
