@@ -6,9 +6,10 @@
 PROGRAM is crates/starhost/out/starhost where no word is given. Told in one line each: LINES lines (5,000,000) over one
 connection, with rules, refused lines and selects, beside seven other sessions of the tenant that have transactions now and then;
 what the server has in memory behind SELECTS selects (10,000) of 4,000 rows, where a tenant has a share of it; sixteen clients
-of two tenants that are renewed again and again, and the longest wait of each tenant; and a server with a journal that is killed
-while its tenants are renewed: each transaction that was answered is there at its next start. The last line of the first three
-servers counts the steps of all volumes. The first reply that isn't as it is to be ends this with status 1.
+of two tenants that are renewed again and again, and the longest wait of each tenant; a server with a journal that is killed
+while its tenants are renewed: each transaction that was answered is there at its next start; and one that starts with a share
+below what a tenant has: it is renewed, or its lines aren't begun, and all others go on. The last line of the first three servers
+counts the steps of all volumes. The first reply that isn't as it is to be ends this with status 1.
 """
 
 import random
@@ -266,6 +267,42 @@ def killed(program, times):
         print(f"{times} kills of a server with a journal, {renewals} renewals: what was answered is there")
 
 
+def fill(program, words):
+    """A server whose tenant 0 takes more than a megabyte, and its tenant 1 little. It is ended."""
+    server = Server(program, *words, "--tenant-memory", "8")
+    with server.client("0 0") as client:
+        expect("a table", client.ask("create table t (a text)"), "ok")
+        long = ", ".join(f"('{'x' * 240}')" for _row in range(16))
+        for _time in range(400):
+            told = [client.ask(line) for line in ("begin", f"insert into t values {long}", "delete from t", "commit")]
+            expect("a long transaction", told, ["ok", "ok 16", "ok 16", "done 0"])
+        told = [client.ask(line) for line in ("begin", "insert into t values ('kept')", "commit")]
+        expect("a short transaction", told, ["ok", "ok 1", "done 0"])
+    with server.client("1 0") as client:
+        expect("a table", client.ask("create table t (a text)"), "ok")
+    server.end_well()
+
+
+def smaller_share(program):
+    """A start with a share below what a tenant has lets all others go on. That one is renewed, or its lines aren't begun."""
+    with tempfile.TemporaryDirectory() as room:
+        words = ["--tenants", "2", "--cells", "2", "--journal", f"{room}/journal", "--sync", "never"]
+        fill(program, [*words, "--renew", "never"])
+        server = Server(program, *words, "--renew", "never", "--tenant-memory", "1")
+        with server.client("1 0") as client:
+            expect("another tenant", client.ask("begin"), "ok")
+        expect("a tenant over its share", server.client("0 0").told, "no 92 NotBegun")
+        server.end_well()
+        server = Server(program, *words, "--renew", "auto", "--tenant-memory", "1")
+        with server.client("0 0") as client:
+            expect("a tenant that is renewed", client.told, "ok")
+            expect("its transaction", client.ask("begin"), "ok")
+            expect("its row", client.replies("select * from t"), ["rows 1", "kept"])
+        _told, log = server.end_well()
+        need(sum("renewed: tenant 0:" in line for line in log) == 1, f"renewals: {log[-3:]}")
+        print("a start with a share below what a tenant has: that one is renewed, or its lines aren't begun, and others go on")
+
+
 def main():
     words = sys.argv[1:]
     program = program_of(words)
@@ -276,6 +313,7 @@ def main():
         share(program, selects)
         beside(program)
         killed(program, 5)
+        smaller_share(program)
     finally:
         Server.kill_all()
 
