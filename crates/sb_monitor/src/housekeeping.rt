@@ -1,10 +1,12 @@
-//! The background task of a server: its keys are read again, and a long stop writes its tenants.
+//! The background task of a server: its keys are read again, tenants without a connection are renewed, and a long stop
+//! writes its tenants.
 
 use crate::listener::is_closed;
+use crate::server_control::{ServerControl, ServerControls};
 use sb_backup::TenantSaver;
-use sb_host::Lending;
+use sb_host::{Hosting, Lending};
 use sb_keys::{KeyFiles, KeySource, KeyWatch, Look};
-use sb_server::{BackgroundTask, ShutdownSignal};
+use sb_server::{BackgroundTask, Renewals, ShutdownSignal};
 use sb_words::Log;
 use std::net::TcpListener;
 use std::rt::Files;
@@ -101,19 +103,42 @@ impl<'s, 'r, 'j, H: Lending, T: Files, O: Log> LongStop<'s, 'r, 'j, H, T, O> {
     }
 }
 
-/// Looks at a chore, and at a long stop where tenants are written behind the server's end.
+/// Renews tenants that have no connection: their workers look at those alone that have one.
 #[derive(Drop)]
-pub struct Housekeeping<'c, 's, 'r, 'j, C, H, T, O> {
+pub struct IdleRenewals<'i, H, E> {
+    pub host: H,
+    pub renewals: &'i E,
+    pub controls: &'i ServerControls,
+}
+
+impl<'i, H: Hosting, E: Renewals> IdleRenewals<'i, H, E> {
+    /// Asks the workers of those that are due. A worker that can't be asked now is asked at the next look.
+    fn look<R: Wait>(&self, rt: &R) {
+        let cells = self.host.cells();
+        for tenant in 0..self.host.tenants() {
+            if self.controls.session_board.is_idle(tenant) && self.renewals.is_due(tenant) {
+                let _is_asked = self.controls.renew(rt, (tenant % cells) as usize, tenant);
+            }
+        }
+    }
+}
+
+/// Looks at a chore, at tenants that are to be renewed, and at a long stop where tenants are written behind the server's
+/// end.
+#[derive(Drop)]
+pub struct Housekeeping<'c, 'i, 's, 'r, 'j, C, E, H, T, O> {
     pub chore: &'c C,
+    /// None where no tenant is renewed by itself.
+    pub idle_renewals: Option<IdleRenewals<'i, H, E>>,
     /// None where no tenants are written.
     pub long_stop: Option<LongStop<'s, 'r, 'j, H, T, O>>,
 }
 
-impl<'c, 's, 'r, 'j, C: Chore, H: Lending, T: Files, O: Log> BackgroundTask
-    for Housekeeping<'c, 's, 'r, 'j, C, H, T, O> {
+impl<'c, 'i, 's, 'r, 'j, C: Chore, E: Renewals, H: Lending, T: Files, O: Log> BackgroundTask
+    for Housekeeping<'c, 'i, 's, 'r, 'j, C, E, H, T, O> {
     fn run<R: Wait>(&self, rt: &R, over: &ShutdownSignal) {
         // where a thread can't be started, its job may wait for the end of this one
-        if self.chore.is_idle() && self.long_stop.is_none() {
+        if self.chore.is_idle() && self.idle_renewals.is_none() && self.long_stop.is_none() {
             return;
         }
         let mut seen = self.chore.first();
@@ -122,6 +147,9 @@ impl<'c, 's, 'r, 'j, C: Chore, H: Lending, T: Files, O: Log> BackgroundTask
                 return;
             }
             seen = self.chore.look(rt, seen);
+            if let Some(idle_renewals) = &self.idle_renewals {
+                idle_renewals.look(rt);
+            }
             if let Some(long_stop) = &self.long_stop {
                 long_stop.look();
             }

@@ -29,7 +29,7 @@ mod tenant_renewals;
 mod tenant_script;
 
 pub use event_log::EventLog;
-pub use housekeeping::{Chore, Housekeeping, LongStop, NoChore};
+pub use housekeeping::{Chore, Housekeeping, IdleRenewals, LongStop, NoChore};
 pub use journal_hook::{JournalHook, SyncedChore};
 pub use listener::{ListenError, is_closed, listen};
 pub use memory::memory_file;

@@ -106,7 +106,7 @@ fn server_metrics_of<T: Clock>(
     size: ServerSize,
 ) -> Result<ServerMetrics, AllocError> {
     if !size.is_counted {
-        return Ok(ServerMetrics::blank(alloc));
+        return ServerMetrics::uncounted(alloc, size.workers);
     }
     ServerMetrics::new(
         alloc,

@@ -87,6 +87,14 @@ impl SessionBoard {
         }
     }
 
+    /// True if no session of the tenant at this place has a connection.
+    pub(crate) fn is_idle(&self, place: u32) -> bool {
+        match self.tenants.get(place as usize) {
+            Some(tenant) => tenant.attached.load(Ordering::SeqCst) == 0,
+            None => true,
+        }
+    }
+
     /// How many connections got no session of the tenant at this place.
     pub(crate) fn turned_away(&self, place: u32) -> u64
         ensures { tenants_counted self.now ≤ place → result ≡ 0 }

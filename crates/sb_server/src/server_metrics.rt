@@ -56,18 +56,33 @@ impl Drop for ServerMetrics {
     }
 }
 
+/// No request yet to any of so many workers.
+fn desks_of(alloc: Global, workers: usize) -> Result<Vec<Mutex<Orders>>, AllocError>
+    ensures { IfOk result (λ desks. length desks.items ≡ workers) }
+{
+    let mut desks = Vec::new(alloc);
+    for _worker in 0..workers {
+        desks.push(Mutex::new(Orders {
+            waker: None,
+            ends: Vec::new(alloc),
+            renewals: Vec::new(alloc),
+        }))?;
+    }
+    Ok(desks)
+}
+
 impl ServerMetrics {
-    /// Metrics that count nothing.
-    pub fn blank(alloc: Global) -> ServerMetrics
-        ensures { (place_count result ≡ 0) × (desk_count result ≡ 0) }
+    /// Metrics that count nothing, of so many workers. Error: out of memory.
+    pub fn uncounted(alloc: Global, workers: usize) -> Result<ServerMetrics, AllocError>
+        ensures { IfOk result (λ server_metrics. (place_count server_metrics ≡ 0) × (desk_count server_metrics ≡ workers)) }
     {
-        ServerMetrics {
+        Ok(ServerMetrics {
             tallies: Vec::new(alloc),
-            desks: Vec::new(alloc),
+            desks: desks_of(alloc, workers)?,
             slowest: Mutex::new(Vec::new(alloc)),
             floor: AtomicU64::new(u64::MAX),
             last_lines: LastLines::none(alloc),
-        }
+        })
     }
 
     /// The metrics of so many workers and the accept thread, and of so many tenants from this first number on. The
@@ -82,19 +97,13 @@ impl ServerMetrics {
         ensures { IfOk result (λ server_metrics. (place_count server_metrics ≡ workers + 1) × (desk_count server_metrics ≡ workers)) }
     {
         let mut tallies = Vec::new(alloc);
-        let mut desks = Vec::new(alloc);
         for _worker in 0..workers {
             tallies.push(WorkerCounters::new(alloc)?)?;
-            desks.push(Mutex::new(Orders {
-                waker: None,
-                ends: Vec::new(alloc),
-                renewals: Vec::new(alloc),
-            }))?;
         }
         tallies.push(WorkerCounters::new(alloc)?)?;
         Ok(ServerMetrics {
             tallies,
-            desks,
+            desks: desks_of(alloc, workers)?,
             slowest: Mutex::new(Vec::with_capacity(alloc, MOST_LINES)?),
             floor: AtomicU64::new(0),
             last_lines: LastLines::new(alloc, began, first_tenant, tenants)?,

@@ -16,8 +16,9 @@ use sb_backup::{
 };
 use sb_host::{Renewing, Stub};
 use sb_monitor::{
-    Chore, EventLog, Housekeeping, LongStop, NoChore, Pages, RenewalLimits, ServerControls,
-    StatusPort, Supervisor, TenantRenewals, listen, memory_file, serve_beside, work_beside,
+    Chore, EventLog, Housekeeping, IdleRenewals, LongStop, NoChore, Pages, RenewalLimits,
+    ServerControls, StatusPort, Supervisor, TenantRenewals, listen, memory_file, serve_beside,
+    work_beside,
 };
 use sb_server::{
     Admission, BackgroundTask, CommitHook, NoJournal, NoRenewals, Open, Renewals, ServeError,
@@ -207,6 +208,7 @@ where
         };
         let housekeeping = Housekeeping {
             chore: gate.chore,
+            idle_renewals: self.idle_renewals(renewals),
             long_stop: self.long_stop(&saver, listener),
         };
         match self.serve_config(&config, port, &housekeeping) {
@@ -278,6 +280,18 @@ where
         )?;
         renewals.hold(self.rt, closed)?;
         Ok(renewals)
+    }
+
+    /// Renewals of tenants that have no connection, where any is renewed by itself.
+    fn idle_renewals<'a, E: Renewals>(&'a self, renewals: &'a E) -> Option<IdleRenewals<'a, H, E>> {
+        match self.plan.renew {
+            RenewPolicy::Never => None,
+            RenewPolicy::Auto => Some(IdleRenewals {
+                host: self.host,
+                renewals,
+                controls: self.controls,
+            }),
+        }
     }
 
     /// The terms of the server. With a status port its input is the stop's.
