@@ -1,6 +1,6 @@
 //! What is known of a server while it serves: counts of its workers, the slowest lines, and when each session was answered.
 //! And what it is told: whose sessions are to end, and which tenants are to be renewed.
-ghost use Rattle.std.specs.Prelude.{◌≡◌, ◌+◌, ◌<◌, ◌≤◌, ◌↔◌, IfOk, IfSome, IsFalse, IsTrue};
+ghost use Rattle.std.specs.Prelude.{◌≡◌, ◌+◌, ◌<◌, ◌≤◌, ◌↔◌, IfOk, IfSome, IsFalse, IsTrue, length};
 ghost use Rattle.sb_server.specs.ServerMetrics.{AreSlowestFirst, IsSessionFrom, desk_count, place_count};
 
 use crate::counts::{Count, WorkerCounters};
