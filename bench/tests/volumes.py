@@ -308,7 +308,7 @@ def smaller_share(program):
         server = Server(program, *words, "--renew", "auto", "--tenant-memory", "1")
         with first_client(server) as client:
             expect("its transaction", client.ask("begin"), "ok")
-            expect("its row", client.replies("select * from t"), ["rows 1", "kept"])
+            expect("its row", client.replies("select * from t"), ["rows 1", "'kept'"])
         _told, log = server.end_well()
         need(sum("renewed: tenant 0:" in line for line in log) == 1, f"renewals: {log[-3:]}")
         print("a start with a share below what a tenant has: that one is renewed, or its lines aren't begun, and others go on")
