@@ -14,10 +14,10 @@ server is refused, and nothing in the folder is changed. N requests for memory (
 behind them (refuse.c, compiled by cc): where a record lacks memory, replies wait. Each of N calls on files (40) fails in
 turn (refuse_disk.c), with --sync always and second: the server ends with a fault, and what it answered is there. With
 second there is a sync each second under load and one behind the last line, none of it while nothing comes, and one that
-fails ends the server before its next reply to a commit; a run makes one before it ends. A transaction of four lines waits
-for two syncs, those of its commit. While a tenant is dumped, those of other cells commit. Then what can't be: two servers on
-one folder, another number of tenants, another bound, a full disk, and what is no folder of segments, which stays as it is.
-The first thing that isn't as it is to be ends this with status 1.
+fails ends the server before its next reply to a commit; a run makes one before it ends. Of a run's file no more is cut off
+than a crash leaves. A transaction of four lines waits for two syncs, those of its commit. While a tenant is dumped, those
+of other cells commit. Then what can't be: two servers on one folder, another number of tenants, another bound, a full disk,
+and what is no folder of segments, which stays as it is. The first thing that isn't as it is to be ends this with status 1.
 """
 
 import argparse
@@ -444,6 +444,50 @@ def settles_a_run(program, room, refuses):
             need(syncs and writes and syncs[-1] >= writes[-1], f"a run's last sync: {syncs}, its last write: {writes[-1:]}")
 
 
+def blocks_of_run(data):
+    """The places of the blocks of a run's file, and that behind the last one."""
+    places = [0]
+    while data[places[-1]] == 1:
+        places.append(places[-1] + 5 + int.from_bytes(data[places[-1] + 1:places[-1] + 5], "big"))
+    return places
+
+
+def cuts_little(program, room):
+    """Of a run's file no more is cut off than a crash leaves; where more stands behind its last whole block, it is refused and
+    stays as it is. Returns how many were refused."""
+    file, most = os.path.join(room, "run"), (1 << 20) + 5
+
+    def run_on(lines=b""):
+        words = [program, "run", "--tenants", "1", "--journal", file]
+        return subprocess.run(words, input=lines, capture_output=True)
+
+    need(run_on(b"0 0 open\n0 0 create table t (a int)\n0 0 insert into t values (1)\n0 0 end\n").returncode == 0, "a run with a journal")
+    data = bytes_of(file)
+    places = blocks_of_run(data)
+    last, end = places[-2:]
+    need(end == len(data) - 1, f"a run's file has {len(data)} bytes, and its blocks end at {end}")
+    longer = bytearray(data)
+    longer[places[1] + 2] ^= 1
+    refused = [(data[:n], n - last) for n in range(last + 2, end)]
+    refused += [(data + bytes(most + 1), most + 2), (bytes(longer), len(data) - places[1])]
+    # the last line is the `end` of the session, which a start records where it isn't there
+    taken = [data[:end], data + b"x" * 40, data + bytes(most), data[:last], data[:last + 1]]
+    for begins, behind in refused:
+        with open(file, "wb") as written:
+            written.write(begins)
+        ran = run_on()
+        need(ran.returncode == 1 and ran.stderr.endswith(b"fault: cannot open journal\n"), f"a run's file of {len(begins)} bytes: {ran}")
+        need(f"journal {file}: {behind} bytes stand behind its last whole block".encode() in ran.stderr, f"{behind} bytes: {ran.stderr!r}")
+        need(bytes_of(file) == begins, "a run's file that was refused has changed")
+    for begins in taken:
+        with open(file, "wb") as written:
+            written.write(begins)
+        ran = run_on()
+        need(ran.returncode == 0, f"a run's file as a crash leaves it, of {len(begins)} bytes: {ran}")
+        need(bytes_of(file) == data, "behind a crash a run's file has other blocks")
+    return len(refused)
+
+
 def share_bounds_file(program, room):
     """With --tenant-memory a tenant writes no more than its share, also over several starts; others go on."""
     folder, share, long = os.path.join(room, "share"), 1 << 20, "select " + "x" * 4000
@@ -624,6 +668,7 @@ def main():
         print(f"--sync always: {syncs_by_commits(program, room, refuses)} syncs for 20 transactions of four lines over one connection")
         trial(feels_late_sync, program, room, refuses)
         settles_a_run(program, room, refuses)
+        print(f"{cuts_little(program, room)} files of a run have more behind their last block than a crash leaves: refused, and as they were")
         cannot_be(program, room)
         waited, took = max(dumps_keep_nobody(program, room))
         print(f"while a tenant is dumped for {took:.1f} s, others wait for {waited:.2f} s at most")

@@ -37,9 +37,9 @@ all_more batches entries waiting all = ap (λ (l : List Entry). l ++ waiting) al
 
 pub keeps_more : (head : Head) (batches : List (List Entry)) (entries waiting : List Entry) (content file : List ℕ) → entries ≡ all_of batches → content ≡ bytes_of waiting
     → IsBeforeOrAfter (head_bytes head ∷ contents_of batches) content file → Keeps head entries file ⊎ Keeps head (entries ++ waiting) file
-keeps_more head batches entries waiting content file all is (inl before) = inl (record { batches = batches; stands = before; all = all })
+keeps_more head batches entries waiting content file all is (inl before) = inl (record { batches = batches; stands = before.stands; all = all })
 keeps_more head batches entries waiting content file all is (inr after) = inr (record {
   batches = batches ++ waiting ∷ [];
-  stands = subst (λ (cs : List (List ℕ)). Stands cs file) (contents_more head batches waiting content is) after;
+  stands = subst (λ (cs : List (List ℕ)). Stands cs file) (contents_more head batches waiting content is) after.stands;
   all = all_more batches entries waiting all;
 })

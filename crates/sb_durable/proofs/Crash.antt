@@ -1,12 +1,12 @@
 -- What a crash leaves while a content is added.
-use Rattle.std.proofs.Common.{◌≡◌, ℕ, false, ◌+◌, ◌<◌, List, [], ◌∷◌, ◌++◌, length, get_or, sym, ◌∙◌, ap, subst, arith, length-append, append_assoc}
+use Rattle.std.proofs.Common.{◌≡◌, ℕ, false, ◌+◌, ◌<◌, ◌≤◌, ◌^◌, List, [], ◌∷◌, ◌++◌, length, get_or, sym, ◌∙◌, ap, subst, arith, length-append, length-drop, append_assoc}
 use Rattle.std.proofs.lemmas.List.{append-nil}
 use Rattle.sqlite_disk.specs.Disk.{Holds, Torn, Follows, Only}
-use Rattle.sb_durable.specs.Blocks.{body, block, blocks, IsContent, Stands, IsBeforeOrAfter}
+use Rattle.sb_durable.specs.Blocks.{body, block, blocks, IsContent, IsBeforeOrAfter, IsLeft}
 use Rattle.sb_durable.specs.Log.{HasAll}
 use Rattle.sb_durable.specs.declared.record_log.RecordLog.{RecordLog}
 use Rattle.sb_durable.proofs.Bytes.{torn_front, torn_byte, written_behind}
-use Rattle.sb_durable.proofs.Contents.{each-push, blocks-push, stands_shut, stands_gate}
+use Rattle.sb_durable.proofs.Contents.{each-push, blocks-push, few_bytes, left_shut, stands_gate}
 
 module _ {D : Type 0} (seen : D → List ℕ) (may_leave : D → List ℕ → Type 0) (log : RecordLog D) (contents : List (List ℕ)) (has : HasAll seen may_leave log contents) where
   file : List ℕ
@@ -16,18 +16,23 @@ module _ {D : Type 0} (seen : D → List ℕ) (may_leave : D → List ℕ → Ty
   size = length-append (blocks contents) (has.file.gate ∷ []) ∙ ap (λ (n : ℕ). n + 1) (sym has.gate)
 
   -- between two calls
-  pub left_now : (c : List ℕ) → may_leave log.device c → Stands contents c
-  left_now c left = stands_shut contents has.file.gate [] c has.each has.file.shut (has.durable c left ∙ has.file.whole)
+  pub left_now : (c : List ℕ) → may_leave log.device c → IsLeft contents c
+  left_now c left = left_shut contents has.file.gate [] c has.each has.file.shut (omega arith) (has.durable c left ∙ has.file.whole)
 
   -- while the body is written behind the gate
-  pub left_behind : (n : ℕ) (mid : D) → Follows (Torn (log.gate + 1) n) (may_leave log.device) (may_leave mid) → (c : List ℕ) → may_leave mid c → Stands contents c
-  left_behind n mid follows c left =
+  pub left_behind : (n : ℕ) (mid : D) → n ≤ 2 ^ 20 + 5 → Follows (Torn (log.gate + 1) n) (may_leave log.device) (may_leave mid) → (c : List ℕ) → may_leave mid c → IsLeft contents c
+  left_behind n mid few follows c left =
       let from = follows c left in
       let was : from.0 ≡ blocks contents ++ has.file.gate ∷ [] ++ [] = has.durable from.0 from.1 ∙ has.file.whole ∙ sym (append-nil (blocks contents ++ has.file.gate ∷ [])) in
       let stays = torn_front from.0 (blocks contents ++ has.file.gate ∷ []) [] c (log.gate + 1) n was (omega (arith, size)) from.2 in
-      stands_shut contents has.file.gate _ c has.each has.file.shut (stays ∙ append_assoc (blocks contents) (has.file.gate ∷ []) _)
+      let long : length from.0 ≡ log.gate + 1 = ap length was ∙ ap length (append-nil (blocks contents ++ has.file.gate ∷ [])) ∙ size in
+      left_shut contents has.file.gate _ c has.each has.file.shut (omega (arith, few, long, size, from.2.no_longer, length-drop (length (blocks contents ++ has.file.gate ∷ [])) c)) (stays ∙ append_assoc (blocks contents) (has.file.gate ∷ []) _)
 
   module _ (content bytes : List ℕ) (one : IsContent content) (are : bytes ≡ body content ++ 0 ∷ []) where
+    -- so few bytes are written
+    pub few_written : length bytes ≤ 2 ^ 20 + 5
+    few_written = omega (arith, ap length are, few_bytes content one)
+
     some : 0 < length bytes
     some = omega (arith, ap length are, length-append (body content) (0 ∷ []))
 

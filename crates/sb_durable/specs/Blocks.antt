@@ -1,5 +1,5 @@
 -- Promise: what a file of blocks stands for.
-use Rattle.std.specs.Prelude.{◌≡◌, ◌≢◌, ◌⊎◌, ℕ, ◌^◌, ◌<◌, ◌≤◌, List, [], ◌∷◌, ◌++◌, length}
+use Rattle.std.specs.Prelude.{◌≡◌, ◌≢◌, ◌⊎◌, ℕ, ◌+◌, ◌^◌, ◌<◌, ◌≤◌, List, [], ◌∷◌, ◌++◌, length}
 use Rattle.std.specs.List.{AllByRecursion}
 use Rattle.std.specs.Int.{w32, to_be_bytes}
 
@@ -35,6 +35,21 @@ pub record Stands (contents : List (List ℕ)) (file : List ℕ) : Type 0 where
   pub whole : file ≡ blocks contents ++ end
   pub over : IsEnd end
 
--- the file stands for what was there, or for that and one content more
+-- A crash may leave this behind the last block: nothing, one byte, or a gate that is shut and no more bytes behind it than an append writes.
+abbrev pub IsRemnant : List ℕ → Type 0
+IsRemnant [] = Unit {0}
+IsRemnant (gate ∷ []) = Unit {0}
+IsRemnant (gate ∷ next ∷ rest) = (gate ≢ 1) × (length rest ≤ 2 ^ 20 + 4)
+
+-- So many bytes are there, and no crash leaves them.
+abbrev pub IsExcess : ℕ → List ℕ → Type 0
+IsExcess count end = (length end ≡ count) × (IsRemnant end → ⊥)
+
+-- the file stands for these contents, and no more is behind them than a crash leaves
+pub record IsLeft (contents : List (List ℕ)) (file : List ℕ) : Type 0 where
+  pub stands : Stands contents file
+  pub few : IsRemnant stands.end
+
+-- a crash left the file with what was there, or with that and one content more
 abbrev pub IsBeforeOrAfter : List (List ℕ) → List ℕ → List ℕ → Type 0
-IsBeforeOrAfter contents content file = Stands contents file ⊎ Stands (contents ++ content ∷ []) file
+IsBeforeOrAfter contents content file = IsLeft contents file ⊎ IsLeft (contents ++ content ∷ []) file

@@ -16,6 +16,9 @@ pub enum JournalError {
     /// The file is damaged: it has no list of records.
     #[error("it is damaged")]
     Damaged,
+    /// So many bytes stand behind its last block, and no crash has left them.
+    #[error("{0} bytes stand behind its last whole block that no crash has left")]
+    Behind(usize),
     /// An earlier write or sync has failed in this run.
     #[error("a write of it has failed before")]
     Spent,

@@ -1,8 +1,8 @@
 //! A file of blocks. A block counts if its gate is open, and it is whole; a shut gate stands behind the last, on the
 //! disk before anything is written behind it.
-ghost use Rattle.std.specs.Prelude.{◌≡◌, ◌≢◌, ◌⊎◌, ◌+◌, ◌<◌, ◌≤◌, ◌^◌, ◌++◌, ◌↔◌, [], ◌∷◌, List, ℕ, length, take, IfOk, IfErr, OnOk, OnErr, IsErr, IsTrue};
+ghost use Rattle.std.specs.Prelude.{◌≡◌, ◌≢◌, ◌⊎◌, ◌+◌, ◌<◌, ◌≤◌, ◌^◌, ◌++◌, ◌↔◌, [], ◌∷◌, List, ℕ, length, drop, take, IfOk, IfErr, OnOk, OnErr, IsErr, IsTrue};
 ghost use Rattle.sqlite_disk.specs.Disk.{Only, Holds};
-ghost use Rattle.sb_durable.specs.Blocks.{body, blocks, IsContent, IsBeforeOrAfter, Stands};
+ghost use Rattle.sb_durable.specs.Blocks.{body, blocks, IsContent, IsBeforeOrAfter, IsExcess, IsLeft, IsRemnant, Stands};
 ghost use Rattle.sb_durable.specs.Log.{HasAll, IsSpent, device_of, Reads};
 
 use crate::JournalError;
@@ -23,7 +23,8 @@ pub struct RecordLog<D: Disk> {
 
 impl<D: Disk> RecordLog<D> {
     /// Opens a file that a crash may have left, or an empty one. A crash during the call is covered, too. Error: the
-    /// device's, Memory or Damaged; the file is given back.
+    /// device's, Memory, Damaged, or Behind, where more stands behind the last block than a crash leaves. The file is given
+    /// back.
     pub fn open(device: D) -> Result<RecordLog<D>, (JournalError, D)>
         requires { IsTrue (D.Disk.is_usable device) }
         ensures ok { IfOk result (λ log. IsTrue (D.Disk.is_clean (device_of log)) → (contents : List (List ℕ)) → Stands contents (D.Disk.seen device)
@@ -34,6 +35,20 @@ impl<D: Disk> RecordLog<D> {
             → (contents : List (List ℕ)) → Stands contents (D.Disk.seen device) → (file : List ℕ) → D.Disk.may_leave (device_of log) file → Stands contents file) }
         ensures any_moment_err { IfErr result (λ e. IsTrue (D.Disk.is_clean e.1) → Only (D.Disk.seen device) (D.Disk.may_leave device)
             → (contents : List (List ℕ)) → Stands contents (D.Disk.seen device) → (file : List ℕ) → D.Disk.may_leave e.1 file → Stands contents file) }
+
+        // A file in which no more is than a crash leaves stays one.
+        ensures left { IfOk result (λ log. IsTrue (D.Disk.is_clean (device_of log)) → Only (D.Disk.seen device) (D.Disk.may_leave device)
+            → (contents : List (List ℕ)) → IsLeft contents (D.Disk.seen device) → (file : List ℕ) → D.Disk.may_leave (device_of log) file → IsLeft contents file) }
+        ensures left_err { IfErr result (λ e. IsTrue (D.Disk.is_clean e.1) → Only (D.Disk.seen device) (D.Disk.may_leave device)
+            → (contents : List (List ℕ)) → IsLeft contents (D.Disk.seen device) → (file : List ℕ) → D.Disk.may_leave e.1 file → IsLeft contents file) }
+
+        // Any other is refused, and left as it is.
+        ensures remnant { IfOk result (λ log. IsTrue (D.Disk.is_clean (device_of log)) → (contents : List (List ℕ)) → Stands contents (D.Disk.seen device)
+            → IsRemnant (drop (length (blocks contents)) (D.Disk.seen device))) }
+        ensures behind { IfErr result (λ e. (count : ℕ) → e.0 ≡ JournalError.Behind count → IsTrue (D.Disk.is_clean e.1)
+            → (contents : List (List ℕ)) → Stands contents (D.Disk.seen device) → IsExcess count (drop (length (blocks contents)) (D.Disk.seen device))) }
+        ensures same { IfErr result (λ e. (count : ℕ) → e.0 ≡ JournalError.Behind count → (D.Disk.seen e.1 ≡ D.Disk.seen device)
+            × ((file : List ℕ) → D.Disk.may_leave e.1 file → D.Disk.may_leave device file)) }
 
         // A file that stands for a list isn't called damaged, cut at any byte or whole.
         ensures damaged { IfErr result (λ e. e.0 ≡ JournalError.Damaged → IsTrue (D.Disk.is_clean e.1)

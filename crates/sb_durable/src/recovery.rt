@@ -1,8 +1,8 @@
 //! What a crash may have left: the end of its blocks is found, and what is torn behind them is cut off.
-ghost use Rattle.std.specs.Prelude.{◌≡◌, ◌≢◌, ◌+◌, ◌-◌, ◌<◌, ◌≤◌, ◌^◌, List, ℕ, length, drop, slice_index, IfOk, IfErr, IfSome, OnOk, IsTrue};
+ghost use Rattle.std.specs.Prelude.{◌≡◌, ◌≢◌, ◌+◌, ◌-◌, ◌<◌, ◌≤◌, ◌^◌, ◌↔◌, List, ℕ, length, drop, IfOk, IfErr, IfSome, OnOk, IsTrue};
 ghost use Rattle.std.specs.Int.{w32, to_be_bytes, from_be_bytes};
 ghost use Rattle.sqlite_disk.specs.Disk.{Only};
-ghost use Rattle.sb_durable.specs.Blocks.{blocks, Stands};
+ghost use Rattle.sb_durable.specs.Blocks.{IsExcess, IsLeft, IsRemnant, blocks, Stands};
 ghost use Rattle.sb_durable.specs.Log.{IsAtRest};
 ghost use Rattle.sb_durable.specs.Ends.{Finds, EndsAt};
 
@@ -12,7 +12,11 @@ use std::io;
 
 pub const MAX_CONTENT: usize = 1 << 20;
 
-/// Finds the gate behind the last block, and leaves nothing behind it. It may crash too.
+/// A crash leaves no more bytes behind the last block: a gate, the length and the content of one block, and the next gate.
+const MOST_LEFT: usize = MAX_CONTENT + 6;
+
+/// Finds the gate behind the last block, and leaves nothing behind it. It may crash too. Error: Behind, if more is there
+/// than a crash leaves; the device's, or Damaged.
 pub(crate) fn recover<D: Disk>(disk: &mut D) -> Result<usize, JournalError>
     requires { IsTrue (D.Disk.is_usable disk.old) }
     ensures found { IfOk result (λ end. IsTrue (D.Disk.is_clean disk.new) → (contents : List (List ℕ)) → Stands contents (D.Disk.seen disk.old)
@@ -20,6 +24,18 @@ pub(crate) fn recover<D: Disk>(disk: &mut D) -> Result<usize, JournalError>
     ensures durable { OnOk result (Only (D.Disk.seen disk.new) (D.Disk.may_leave disk.new)) }
     ensures any_moment { IsTrue (D.Disk.is_clean disk.new) → Only (D.Disk.seen disk.old) (D.Disk.may_leave disk.old)
         → (contents : List (List ℕ)) → Stands contents (D.Disk.seen disk.old) → (file : List ℕ) → D.Disk.may_leave disk.new file → Stands contents file }
+
+    // A file in which no more is than a crash leaves stays one.
+    ensures left { IsTrue (D.Disk.is_clean disk.new) → Only (D.Disk.seen disk.old) (D.Disk.may_leave disk.old)
+        → (contents : List (List ℕ)) → IsLeft contents (D.Disk.seen disk.old) → (file : List ℕ) → D.Disk.may_leave disk.new file → IsLeft contents file }
+
+    // Any other is refused, and left as it is.
+    ensures remnant { OnOk result (IsTrue (D.Disk.is_clean disk.new) → (contents : List (List ℕ)) → Stands contents (D.Disk.seen disk.old)
+        → IsRemnant (drop (length (blocks contents)) (D.Disk.seen disk.old))) }
+    ensures behind { IfErr result (λ e. (count : ℕ) → e ≡ JournalError.Behind count → IsTrue (D.Disk.is_clean disk.new)
+        → (contents : List (List ℕ)) → Stands contents (D.Disk.seen disk.old) → IsExcess count (drop (length (blocks contents)) (D.Disk.seen disk.old))) }
+    ensures same { IfErr result (λ e. (count : ℕ) → e ≡ JournalError.Behind count → (D.Disk.seen disk.new ≡ D.Disk.seen disk.old)
+        × ((file : List ℕ) → D.Disk.may_leave disk.new file → D.Disk.may_leave disk.old file)) }
     ensures damaged { IfErr result (λ e. e ≡ JournalError.Damaged → IsTrue (D.Disk.is_clean disk.new)
         → (contents : List (List ℕ)) → Stands contents (D.Disk.seen disk.old) → ⊥) }
     ensures clean { IsTrue (D.Disk.is_clean disk.new) → IsTrue (D.Disk.is_clean disk.old) }
@@ -29,50 +45,54 @@ pub(crate) fn recover<D: Disk>(disk: &mut D) -> Result<usize, JournalError>
         Ok(end) => end,
         Err(error) => return Err(error),
     };
+    let may_go = is_remnant(disk, end, len)?;
+    if !may_go {
+        return Err(JournalError::Behind(len - end));
+    }
     leave_gate(disk, end, len)?;
     disk.sync()?;
     Ok(end)
 }
 
-/// Leaves the gate at `end`, shut, and nothing behind it.
+/// True if a crash may have left what is behind the blocks of a file, which end there.
+fn is_remnant<D: Disk>(disk: &mut D, end: usize, len: usize) -> io::Result<bool>
+    requires usable { IsTrue (D.Disk.is_usable disk.old) }
+    requires within { end ≤ len }
+    requires len { IsTrue (D.Disk.is_clean disk.old) → len ≡ length (D.Disk.seen disk.old) }
+    ensures told { IfOk result (λ is. IsTrue (D.Disk.is_clean disk.new) → IsTrue is ↔ IsRemnant (drop end (D.Disk.seen disk.old))) }
+    ensures clean { IsTrue (D.Disk.is_clean disk.new) → IsTrue (D.Disk.is_clean disk.old) }
+    ensures seen { D.Disk.seen disk.new ≡ D.Disk.seen disk.old }
+    ensures usable { IsTrue (D.Disk.is_usable disk.new) }
+    ensures crash { (file : List ℕ) → D.Disk.may_leave disk.new file → D.Disk.may_leave disk.old file }
+{
+    if len - end <= 1 {
+        return Ok(true);
+    }
+    if len - end > MOST_LEFT {
+        return Ok(false);
+    }
+    let mut gate = [0];
+    disk.read_at(end, &mut gate)?;
+    Ok(gate[0] != 1)
+}
+
+/// Leaves the gate at `end`, shut, and nothing behind it. A gate that has something behind it is shut already, and is left
+/// as it is, since a torn write might open it.
 fn leave_gate<D: Disk>(disk: &mut D, end: usize, len: usize) -> io::Result<()>
     requires usable { IsTrue (D.Disk.is_usable disk.old) }
     requires within { end ≤ len }
+    requires remnant { IsTrue (D.Disk.is_clean disk.old) → IsRemnant (drop end (D.Disk.seen disk.old)) }
     ensures at_rest { OnOk result (IsTrue (D.Disk.is_clean disk.new)
         → (contents : List (List ℕ)) → EndsAt contents end len (D.Disk.seen disk.old) → IsAtRest contents (D.Disk.seen disk.new)) }
     ensures any_moment { IsTrue (D.Disk.is_clean disk.new) → Only (D.Disk.seen disk.old) (D.Disk.may_leave disk.old)
-        → (contents : List (List ℕ)) → EndsAt contents end len (D.Disk.seen disk.old) → (file : List ℕ) → D.Disk.may_leave disk.new file → Stands contents file }
+        → (contents : List (List ℕ)) → EndsAt contents end len (D.Disk.seen disk.old) → (file : List ℕ) → D.Disk.may_leave disk.new file → IsLeft contents file }
     ensures clean { IsTrue (D.Disk.is_clean disk.new) → IsTrue (D.Disk.is_clean disk.old) }
     ensures usable { OnOk result (IsTrue (D.Disk.is_usable disk.new)) }
 {
     if len - end <= 1 {
         return disk.write_at(end, &[0]);
     }
-    shut_gate(disk, end)?;
     disk.set_len(end + 1)
-}
-
-/// Shuts the gate at `end` if it is open, before what is behind it is cut off. A shut gate is left as it is, since a
-/// torn write might open it.
-fn shut_gate<D: Disk>(disk: &mut D, end: usize) -> io::Result<()>
-    requires { IsTrue (D.Disk.is_usable disk.old) }
-    ensures shut { OnOk result (IsTrue (D.Disk.is_clean disk.new) → slice_index (D.Disk.seen disk.new) end ≢ 1) }
-    ensures stays { OnOk result (IsTrue (D.Disk.is_clean disk.new) → (contents : List (List ℕ)) (len : ℕ) → 1 < len - end
-        → EndsAt contents end len (D.Disk.seen disk.old) → EndsAt contents end len (D.Disk.seen disk.new)) }
-    ensures durable { OnOk result (Only (D.Disk.seen disk.old) (D.Disk.may_leave disk.old) → Only (D.Disk.seen disk.new) (D.Disk.may_leave disk.new)) }
-    ensures any_moment { IsTrue (D.Disk.is_clean disk.new) → Only (D.Disk.seen disk.old) (D.Disk.may_leave disk.old)
-        → (contents : List (List ℕ)) (len : ℕ) → 1 < len - end → EndsAt contents end len (D.Disk.seen disk.old)
-        → (file : List ℕ) → D.Disk.may_leave disk.new file → Stands contents file }
-    ensures clean { IsTrue (D.Disk.is_clean disk.new) → IsTrue (D.Disk.is_clean disk.old) }
-    ensures usable { OnOk result (IsTrue (D.Disk.is_usable disk.new)) }
-{
-    let mut gate = [0];
-    disk.read_at(end, &mut gate)?;
-    if gate[0] != 1 {
-        return Ok(());
-    }
-    disk.write_at(end, &[0])?;
-    disk.sync()
 }
 
 /// Where the blocks of a file end. No content is read.
@@ -84,6 +104,7 @@ fn find_end<D: Disk>(disk: &mut D, len: usize) -> Result<usize, JournalError>
     ensures within { IfOk result (λ end. end ≤ len) }
     ensures damaged { IfErr result (λ e. e ≡ JournalError.Damaged → IsTrue (D.Disk.is_clean disk.new)
         → (contents : List (List ℕ)) → Stands contents (D.Disk.seen disk.old) → ⊥) }
+    ensures kind { IfErr result (λ e. (count : ℕ) → e ≢ JournalError.Behind count) }
     ensures clean { IsTrue (D.Disk.is_clean disk.new) → IsTrue (D.Disk.is_clean disk.old) }
     ensures seen { D.Disk.seen disk.new ≡ D.Disk.seen disk.old }
     ensures usable { IsTrue (D.Disk.is_usable disk.new) }
@@ -112,6 +133,7 @@ pub(crate) fn block_at<D: Disk>(
     ensures fits { IfOk result (λ found. IfSome found (λ size. (size ≤ 2 ^ 20) × (at + 5 + size ≤ len))) }
     ensures damaged { IfErr result (λ e. e ≡ JournalError.Damaged → IsTrue (D.Disk.is_clean disk.new)
         → (contents : List (List ℕ)) → Stands contents (drop at (D.Disk.seen disk.old)) → ⊥) }
+    ensures kind { IfErr result (λ e. (count : ℕ) → e ≢ JournalError.Behind count) }
     ensures clean { IsTrue (D.Disk.is_clean disk.new) → IsTrue (D.Disk.is_clean disk.old) }
     ensures seen { D.Disk.seen disk.new ≡ D.Disk.seen disk.old }
     ensures usable { IsTrue (D.Disk.is_usable disk.new) }

@@ -1,5 +1,6 @@
 use Rattle.std.proofs.Common.{[], ◌∷◌, List, ℕ, refl, sym, ◌∙◌, subst, inl}
 use Rattle.std.proofs.lemmas.Result.{on_ok_weaker, IfErr-weaker}
+use Rattle.sb_durable.specs.Blocks.{IsBeforeOrAfter}
 use Rattle.sb_durable.specs.Log.{HasAll}
 use Rattle.sb_durable.proofs.Crash.{left_now}
 use Rattle.sb_durable.proofs.Pieces.{no_none, no_some}
@@ -52,3 +53,15 @@ returns-clause-kept g c clean first others has = c.read.ensures.same (first ∷ 
 
 pub returns-clause-any_moment : goal.returns-clause-any_moment
 returns-clause-any_moment g c has file left = inl (left_now _ _ _ [] (c.read.ensures.same [] has) file left)
+
+pub returns-in_default-clause-any_moment : goal.returns-in_default-clause-any_moment
+returns-in_default-clause-any_moment g c has file left = inl (left_now _ _ _ [] has file left)
+
+-- while the head is written
+pub returns-in-Ok-append-clause-any_moment : goal.returns-in-Ok-append-clause-any_moment
+returns-in-Ok-append-clause-any_moment g c has file left =
+    subst (λ (h : List ℕ). IsBeforeOrAfter [] h file) (c.deref-in-Ok-None.ensures.value ∙ c.in-Ok.ensures) (c.append.ensures.any_moment [] (c.read.ensures.same [] has) file left)
+
+pub returns-in-Ok-None-clause-any_moment : goal.returns-in-Ok-None-clause-any_moment
+returns-in-Ok-None-clause-any_moment g c has file left =
+    subst (λ (h : List ℕ). IsBeforeOrAfter [] h file) (c.deref-in-Ok-None.ensures.value ∙ c.in-Ok.ensures) (c.append.ensures.any_moment [] (c.read.ensures.same [] has) file left)

@@ -15,7 +15,7 @@ returns-then-is_empty-clause-ok g c head entries waiting has =
 
 pub returns-then-is_empty-clause-any_moment : goal.returns-then-is_empty-clause-any_moment
 returns-then-is_empty-clause-any_moment g c head entries waiting has file left =
-    inl (record { batches = has.batches; stands = left_now _ _ _ _ has.log file left; all = has.all })
+    inl (record { batches = has.batches; stands = (left_now _ _ _ _ has.log file left).stands; all = has.all })
 
 pub returns-in_err-append-clause-any_moment : goal.returns-in_err-append-clause-any_moment
 returns-in_err-append-clause-any_moment g c head entries waiting has file left =
