@@ -31,7 +31,7 @@ import time
 import urllib.error
 import urllib.request
 
-from bench.harness import BUILT, Server, connect, library, more_lines, need, run, tried, until
+from bench.harness import BUILT, Server, connect, is_unproved, library, more_lines, need, run, tried, until
 from bench.segments import HEAD, blocks, bytes_of, newest, records, segments, write_segment
 from bench.tests.generated import Maker
 
@@ -537,14 +537,22 @@ def dump_of(server, tenant):
             need(error.code == 409, f"a dump: {error.code}")
 
 
+def large_tenant(tables, columns):
+    """Lines that make a tenant of so many tables of 4,096 rows with so many texts of 240 bytes."""
+    names = [f"t{at}" for at in range(tables)]
+    texts = [f"b{at}" for at in range(columns)]
+    row = ", ".join(f"'{letter * 240}'" for letter in "abcdefgh"[:columns])
+    made = [f"create table {name} (a int, {', '.join(f'{text} text' for text in texts)})" for name in ("u", *names)]
+    doubled = ["insert into u select * from u"] * 10
+    return [*made, "begin", f"insert into u values (1, {row})", *doubled, *[f"insert into {name} select * from u" for name in names] * 4, "commit"]
+
+
 def dumps_keep_nobody(program, room):
     """While one tenant is dumped, those of other cells commit: the longest wait for an answer, and the shortest dump."""
     server = journaled(program, os.path.join(room, "dumped"), "--sync", "always", "--status", "0", tenants=4)
-    tables = [f"t{at}" for at in range(2)]
-    grown = ["begin", "insert into u values (1, 'some text')", *["insert into u select * from u"] * 10, *[f"insert into {name} select * from u" for name in tables] * 4, "commit"]
+    large = large_tenant(2, 1) if is_unproved() else large_tenant(12, 4)
     for tenant in range(4):
-        made = [f"create table {name} (a int, b text)" for name in ("u", *tables)] + grown if tenant == 0 else []
-        told = server.ask("\n".join([f"{tenant} 0", "create table c (a int)", *made, ""]))
+        told = server.ask("\n".join([f"{tenant} 0", "create table c (a int)", *(large if tenant == 0 else []), ""]))
         need("no " not in told, f"tables: {told}")
     clients = [Committing(server, tenant) for tenant in range(4)]
     for client in clients:
