@@ -128,6 +128,11 @@ class Server:
         with open(f"/proc/{self.process.pid}/status") as file:
             return next(int(line.split()[1]) for line in file if line.startswith("VmRSS"))
 
+    def peak_memory(self):
+        """The most that it has had in memory, in KB."""
+        with open(f"/proc/{self.process.pid}/status") as file:
+            return next(int(line.split()[1]) for line in file if line.startswith("VmHWM"))
+
     def ticks(self):
         """What it has taken of processors, in hundredths of a second."""
         with open(f"/proc/{self.process.pid}/stat") as file:

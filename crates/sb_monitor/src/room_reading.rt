@@ -8,6 +8,9 @@ use sb_tenant::{TRAIL_LIMIT, Tenant};
 /// A tenant is short of room where less than one part of so many is left.
 const PART: u64 = 10;
 
+/// A renewal gives back what is worth it where the trail takes one part of so many of a tenant's share.
+const TRAIL_PART: u64 = 32;
+
 /// Reads how far a tenant's trail is, and whether its room gets short.
 #[derive(Drop)]
 pub(crate) struct RoomReading {
@@ -42,10 +45,13 @@ impl RoomReading {
         }
     }
 
-    /// True if a tenant that takes so many bytes has less than a tenth of its share left.
-    fn lacks_memory(&self, bytes: u64) -> bool {
+    /// True if a tenant has less than a tenth of its share left, and its trail takes enough of it to be renewed.
+    fn lacks_memory(&self, tenant: &Tenant) -> bool {
         match self.memory {
-            Some(share) => is_short(share.saturating_sub(bytes), share),
+            Some(share) => {
+                is_short(share.saturating_sub(tenant.bytes_taken()), share)
+                    && tenant.trail_bytes() >= share / TRAIL_PART
+            }
             None => false,
         }
     }
@@ -65,7 +71,7 @@ impl Reading for RoomReading {
         self.room = Some(Room {
             volume: tenant.volume().number,
             steps,
-            is_short: is_short || self.lacks_memory(tenant.bytes_taken()),
+            is_short: is_short || self.lacks_memory(tenant),
         });
     }
 }

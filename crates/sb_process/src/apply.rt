@@ -87,6 +87,7 @@ impl Database {
         proper_lists_have_lives();
         make(&mut self.tables, &change, copy);
         self.transactions.join(session, index.candidates(&change));
+        self.memory.count(session, &change);
         log.append(change);
     }
 }

@@ -180,6 +180,9 @@ impl Database {
             (L.records log.old) (L.records log.new) (L.clock log.old) (L.clock log.new) }
     {
         let TableChanges { target, changes } = effect;
+        if !self.memory.allows(changes.as_slice()) {
+            return Err(Refusal::NoMemory);
+        }
         let count = changes.len();
         match prepare(alloc, &mut self.tables, log, target, changes) {
             Ok(prepared_changes) => {

@@ -6,7 +6,7 @@ ghost use Rattle.sb_locks.specs.Held.{held};
 ghost use Rattle.sb_process.specs.Represents.{who_in};
 ghost use Rattle.sb_process.specs.Transactions.{mark_of, tested_of};
 
-use crate::Transactions;
+use crate::{MemoryUse, Transactions};
 use sb_locks::Locks;
 use sb_tables::Tables;
 use sb_value::{SessionId, TenantId, Who};
@@ -18,6 +18,8 @@ pub struct Database {
     pub tables: Tables,
     pub locks: Locks,
     pub transactions: Transactions,
+    /// What the rows and the open transactions take, by estimates.
+    pub memory: MemoryUse,
 }
 
 impl Drop for Database {
@@ -27,6 +29,7 @@ impl Drop for Database {
             tables: _,
             locks: _,
             transactions: _,
+            memory: _,
         } = self;
     }
 }
@@ -45,6 +48,7 @@ impl Database {
             tables: Tables::new(alloc),
             locks: Locks::new(),
             transactions: Transactions::new(alloc),
+            memory: MemoryUse::new(),
         }
     }
 

@@ -12,6 +12,7 @@ mod database;
 mod laws;
 mod lock_list;
 mod make;
+mod memory_use;
 mod note;
 mod prepared_changes;
 mod process;
@@ -28,6 +29,7 @@ mod witnesses;
 
 pub use database::Database;
 pub use laws::transactions_share_tables;
+pub use memory_use::MemoryUse;
 pub use process::{AssertionPoint, Rules};
 use sb_value::{Refusal, RuleId, Verdict};
 use std::marker::Model;

@@ -44,6 +44,7 @@ impl Database {
         let who = self.who(session);
         settle_all(&mut self.tables, &self.locks, session);
         log.forget(who);
+        self.memory.count_end(session);
         self.locks.release(session);
     }
 }

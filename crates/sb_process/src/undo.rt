@@ -6,6 +6,7 @@ ghost use Rattle.sb_tables.specs.Held.{Held};
 ghost use Rattle.sb_process.specs.Made.{AreMade, NumbersBelow};
 
 use crate::database::Database;
+use crate::memory_use::MemoryUse;
 use sb_rawlog::ChangeLog;
 use sb_tables::{Tables, changes_keep_places};
 use sb_value::{SessionId, Who};
@@ -23,13 +24,19 @@ impl Database {
         ensures transactions { self.new.transactions ≡ self.old.transactions }
     {
         let who = self.who(session);
-        undo_all(&mut self.tables, log, &who);
+        undo_all(&mut self.tables, &mut self.memory, log, &who);
+        self.memory.count_end(session);
         self.locks.release(session);
     }
 }
 
 /// Undoes the session's changes, the newest first.
-pub(crate) fn undo_all<L: ChangeLog>(tables: &mut Tables, log: &mut L, who: &Who)
+pub(crate) fn undo_all<L: ChangeLog>(
+    tables: &mut Tables,
+    memory: &mut MemoryUse,
+    log: &mut L,
+    who: &Who,
+)
     requires { (origin : List Held) × AreMade origin (changes_by who.now (L.records log.old)) tables.old }
     ensures tables { (origin : List Held) →
         AreMade origin (changes_by who.now (L.records log.old)) tables.old → AreMade origin [] tables.new }
@@ -40,6 +47,7 @@ pub(crate) fn undo_all<L: ChangeLog>(tables: &mut Tables, log: &mut L, who: &Who
     // for the proof: a change that was made can be undone
     changes_keep_places();
     while let Some(change) = log.take_newest(*who) {
+        memory.count_undone(&change);
         tables.undo(change);
     }
 }

@@ -325,7 +325,7 @@ pub(crate) const ROOM_FAMILY: &str = "\
 pub(crate) const ROOM_SAMPLE: &str = "filgwesha_tenant_trail_room{tenant=\"";
 
 pub(crate) const BYTES_FAMILY: &str = "\
-# HELP filgwesha_tenant_bytes Bytes of its trail, its open transactions and the texts of its rules, as its share of memory counts them.
+# HELP filgwesha_tenant_bytes Bytes of its trail, its rows, its open transactions and the texts of its rules, as its share of memory counts them.
 # TYPE filgwesha_tenant_bytes gauge
 ";
 

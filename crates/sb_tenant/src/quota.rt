@@ -11,16 +11,14 @@ const ROLLBACK: &[u8] = b"rollback";
 /// An entry takes so many bytes, beside its line and its reply.
 const ENTRY_BYTES: usize = 128;
 
-/// A change of an open transaction takes so many bytes: its place in the log, and the two rows of a short table.
-const CHANGE_BYTES: u64 = 256;
-
 /// A considered rule in a reply takes so many bytes.
 const CONSIDERED_BYTES: usize = 40;
 
 /// The name of the rule that ended a transaction takes so many bytes apart from its reply, and so does its refusal.
 const APART_BYTES: usize = 48;
 
-/// The bytes that a tenant's trail, its open transactions and the texts of its rules take, and the limit of them.
+/// The bytes that a tenant's trail and the texts of its rules take, and the limit of these and of its rows and its open
+/// transactions.
 #[derive(Clone, Copy)]
 pub(crate) struct Quota {
     limit: Option<u64>,
@@ -54,11 +52,19 @@ impl Quota {
         self.limit = other.limit;
     }
 
-    /// The bytes that are taken.
+    /// The bytes that trail and texts take.
     pub(crate) fn taken(&self) -> u64
         ensures { result ≡ self.now.taken }
     {
         self.taken
+    }
+
+    /// The most bytes that rows and open transactions may take beside them, if there is a limit.
+    pub(crate) fn room(&self) -> Option<u64> {
+        match self.limit {
+            Some(limit) => Some(limit.saturating_sub(self.taken)),
+            None => None,
+        }
     }
 
     /// The number of changes of the open transactions.
@@ -68,12 +74,13 @@ impl Quota {
         self.changes
     }
 
-    /// True if a line isn't begun: all that may be taken is, and it isn't `rollback`, which gives back.
-    pub(crate) fn refuses(&self, line: &[u8]) -> bool
-        ensures { result ≡ refuses self.now line.now }
+    /// True if a line isn't begun where rows and open transactions take so many bytes: all that may be taken is, and it isn't
+    /// `rollback`, which gives back.
+    pub(crate) fn refuses(&self, used: u64, line: &[u8]) -> bool
+        ensures { result ≡ refuses self.now used line.now }
     {
         match self.limit {
-            Some(limit) => self.taken >= limit && line != ROLLBACK,
+            Some(limit) => self.taken.saturating_add(used) >= limit && line != ROLLBACK,
             None => false,
         }
     }
@@ -90,9 +97,6 @@ impl Quota {
     pub(crate) fn count_changes(&mut self, before: usize, after: usize)
         ensures { self.new.limit ≡ self.old.limit }
     {
-        let added = CHANGE_BYTES.saturating_mul(after as u64);
-        let gone = CHANGE_BYTES.saturating_mul(before as u64);
-        self.taken = self.taken.saturating_add(added).saturating_sub(gone);
         let changes = self.changes.saturating_add(after as u64);
         self.changes = changes.saturating_sub(before as u64);
     }

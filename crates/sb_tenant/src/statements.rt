@@ -42,10 +42,15 @@ impl Store {
     {
         tables_are_shared(session);
         match self.database.select(alloc, session, query) {
-            Ok(rows) => match shared(rows) {
-                Ok(replies) => replies,
-                Err(_) => self.run_out(log, session),
-            },
+            Ok(rows) => {
+                if !self.database.memory.has_room_for(rows.text().len() as u64) {
+                    return self.run_out(log, session);
+                }
+                match shared(rows) {
+                    Ok(replies) => replies,
+                    Err(_) => self.run_out(log, session),
+                }
+            }
             Err(refusal) => self.refuse(log, session, refusal),
         }
     }

@@ -48,6 +48,7 @@ impl Store {
             return Err(Refusal::TableInUse);
         }
         self.database.tables.drop_table(id);
+        self.database.memory.count_drop(id);
         Ok(())
     }
 }

@@ -114,17 +114,24 @@ impl Tenant {
         }
     }
 
-    /// Lets its trail, its open transactions and the texts of its rules take so many bytes. Where they are taken no line is begun any more but
-    /// `end` and `rollback`, which give back.
+    /// Lets its trail, its rows, its open transactions and the texts of its rules take so many bytes. Where they are taken
+    /// no line is begun any more but `end` and `rollback`, which give back. Changes that would take more are refused for
+    /// want of memory.
     pub fn limit_memory(&mut self, bytes: u64)
         ensures { self.new ≡ self.old }
     {
         self.quota.set_limit(bytes);
     }
 
-    /// The bytes that its trail, its open transactions and the texts of its rules take, as its limit counts them: an estimate that nothing rests
-    /// on but the limit.
+    /// The bytes that its trail, its rows, its open transactions and the texts of its rules take, as its limit counts them:
+    /// an estimate that nothing rests on but the limit.
     pub fn bytes_taken(&self) -> u64 {
+        let rows = self.store.database.memory.taken();
+        self.quota.taken().saturating_add(rows)
+    }
+
+    /// Those of them that its trail and the texts of its rules take. A renewal gives back those of the trail.
+    pub fn trail_bytes(&self) -> u64 {
         self.quota.taken()
     }
 
@@ -309,7 +316,8 @@ impl Tenant {
                 reply: Reply::No(Refusal::TrailFull),
             });
         }
-        if self.quota.refuses(sent.line) {
+        let used = self.store.database.memory.taken();
+        if self.quota.refuses(used, sent.line) {
             return Err(NotBegun);
         }
         if log.now() >= CLOCK_LIMIT {
@@ -331,7 +339,8 @@ impl Tenant {
             InStep self.old records clock index → InStep self.new records clock index }
     {
         in_range(session);
-        if self.quota.refuses(OPEN) {
+        let used = self.store.database.memory.taken();
+        if self.quota.refuses(used, OPEN) {
             return Err(NotBegun);
         }
         let line = make_ready(
@@ -430,6 +439,7 @@ impl Tenant {
         };
         let changes = log.len();
         let texts = self.store.definitions.rules.clause_bytes();
+        self.store.limit_memory(self.quota.room());
         let (reply, copy) = self.store.answer(alloc, log, index, &asker);
         self.quota.count_changes(changes, log.len());
         let texts_now = self.store.definitions.rules.clause_bytes();
