@@ -15,6 +15,7 @@ use crate::laws::{events_run_in_turn, turns_run_alone};
 use crate::renewal::number_of;
 use crate::{Answers, Event, StepError};
 use sb_index::RuleIndex;
+use sb_process::StepWatch;
 use sb_rawlog::{ChangeLog, RawLog};
 use sb_tables::Table;
 use sb_tenant::laws::trails_are_bounded;
@@ -52,6 +53,7 @@ pub struct Cell {
     tenants: Vec<Tenant>,
     log: Log,
     index: RuleIndex,
+    watch: StepWatch,
 }
 
 impl Drop for Cell {
@@ -63,6 +65,7 @@ impl Drop for Cell {
             tenants: _,
             log: _,
             index: _,
+            watch: _,
         } = self;
     }
 }
@@ -119,6 +122,7 @@ impl Cell {
             tenants: opened(alloc, first, stride, tenants, bound)?,
             log: Log::new(alloc, buckets)?,
             index: RuleIndex::new(alloc),
+            watch: StepWatch::new(alloc)?,
         })
     }
 
@@ -127,6 +131,11 @@ impl Cell {
         ensures { self.new ≡ self.old }
     {
         limit_each(&mut self.tenants, bytes);
+    }
+
+    /// Who is told of its steps while they run.
+    pub fn watch(&self) -> &StepWatch {
+        &self.watch
     }
 
     /// At any time its trails are legal, and together they have few entries.
@@ -234,8 +243,15 @@ impl Cell {
         }
         let place = (tenant / self.stride) as usize;
         let session = SessionId::new(session as u8);
-        let sent = Sent { line, own };
-        match self.tenants[place].step(alloc, &mut self.log, &mut self.index, session, &sent) {
+        let sent = Sent {
+            line,
+            own,
+            watch: Some(&self.watch),
+        };
+        self.watch.begin(tenant, session);
+        let stepped = self.tenants[place].step(alloc, &mut self.log, &mut self.index, session, &sent);
+        self.watch.finish();
+        match stepped {
             Ok(answer) => Ok(answer),
             Err(_) => Err(StepError::NotBegun),
         }

@@ -13,8 +13,8 @@ ghost use Rattle.sb_process.specs.Work.{EachWork, IsAtWork, AreActive, CanRun, P
 use crate::consider::Chosen;
 use crate::database::Database;
 use crate::witnesses::Witnesses;
-use crate::{Outcome, Processed, Trace};
-use sb_catalog::Catalog;
+use crate::{Outcome, Processed, StepWatch, Trace};
+use sb_catalog::{Catalog, Rule};
 use sb_index::RuleIndex;
 use sb_priority::Priorities;
 use sb_rawlog::ChangeLog;
@@ -31,11 +31,23 @@ pub struct Rules<'a> {
 
 /// An assertion point of a session: the rules that are eligible there, and how many may be considered.
 #[derive(Drop)]
-pub struct AssertionPoint {
+pub struct AssertionPoint<'a> {
     pub session: SessionId,
     pub eligible: RuleSet,
     /// The consideration limit.
     pub bound: u32,
+    /// Who is told of each consideration, and may end the step.
+    pub watch: Option<&'a StepWatch>,
+}
+
+impl<'a> AssertionPoint<'a> {
+    /// Tells that a rule is considered next. Error: the step is to end.
+    fn note(&self, rule: &Rule) -> Result<(), AllocError> {
+        match self.watch {
+            Some(watch) if !watch.goes_on(&rule.name) => Err(AllocError),
+            _ => Ok(()),
+        }
+    }
 }
 
 impl Outcome {
@@ -60,7 +72,7 @@ impl Database {
         alloc: Global,
         log: &mut L,
         rules: &Rules<'_>,
-        point: &AssertionPoint,
+        point: &AssertionPoint<'_>,
     ) -> Result<Processed, AllocError>
         requires work { IsAtWork self.old point.now.session (L.records log.old) (L.clock log.old) rules.now }
         requires rules { CanRun self.old.tables rules.now.catalog.now }
@@ -107,7 +119,7 @@ impl Database {
         alloc: Global,
         log: &mut L,
         rules: &Rules<'_>,
-        point: &AssertionPoint,
+        point: &AssertionPoint<'_>,
         trace: &mut Vec<(RuleId, Verdict)>,
     ) -> Result<Outcome, AllocError>
         requires work { IsAtWork self.old point.now.session (L.records log.old) (L.clock log.old) rules.now }
@@ -136,6 +148,7 @@ impl Database {
             ) else {
                 return Ok(Outcome::Done);
             };
+            point.note(rule)?;
             let chosen = Chosen {
                 session: point.session,
                 rule,

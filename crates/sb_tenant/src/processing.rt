@@ -64,6 +64,7 @@ impl Store {
             session: asker.session,
             eligible,
             bound: asker.bound,
+            watch: asker.watch,
         };
         match self.run(alloc, log, index, &point) {
             Ok(processed) => match told(alloc, &self.definitions.rules, &processed) {
@@ -84,7 +85,7 @@ impl Store {
         alloc: Global,
         log: &mut L,
         index: &RuleIndex,
-        point: &AssertionPoint,
+        point: &AssertionPoint<'_>,
     ) -> Result<Processed, AllocError>
         requires stand { (state : State) × StandFor self.old (L.records log.old) (L.clock log.old) index.now state }
         requires active { phase_at self.old.phases point.now.session ≡ phase.Active }

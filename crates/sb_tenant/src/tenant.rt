@@ -25,7 +25,7 @@ use crate::store::Store;
 use crate::volume::Volume;
 use sb_catalog::Definitions;
 use sb_index::RuleIndex;
-use sb_process::Transactions;
+use sb_process::{StepWatch, Transactions};
 use sb_rawlog::ChangeLog;
 use sb_syntax::COMMAND_LIMIT;
 use sb_tables::{Table, Tables};
@@ -50,11 +50,12 @@ pub const END: &[u8] = b"end";
 #[derive(Clone, Copy, Debug, PartialEq, Eq)]
 pub struct NotBegun;
 
-/// A line that was sent, and the same where it is in memory already.
+/// A line that was sent, the same where it is in memory already, and who watches its step.
 #[derive(Drop)]
 pub struct Sent<'a> {
     pub line: &'a [u8],
     pub own: Option<&'a Line>,
+    pub watch: Option<&'a StepWatch>,
 }
 
 /// A database of its own, with the trail of its steps.
@@ -436,6 +437,7 @@ impl Tenant {
             session,
             bound: self.bound,
             line: sent.line,
+            watch: sent.watch,
         };
         let changes = log.len();
         let texts = self.store.definitions.rules.clause_bytes();
