@@ -32,9 +32,9 @@ pub use database::Database;
 pub use laws::transactions_share_tables;
 pub use memory_use::MemoryUse;
 pub use process::{AssertionPoint, Rules};
-pub use step_watch::{RunningStep, StepWatch};
 use sb_value::{Refusal, RuleId, Verdict};
 use std::marker::Model;
+pub use step_watch::{RunningStep, StepWatch};
 pub use transactions::Transactions;
 
 /// The end of rule processing.

@@ -7,8 +7,11 @@ use std::sync::{Arc, Mutex};
 
 /// The bits of a step's word that name its tenant and its session, and the one that says that it runs.
 const WHO_BITS: u32 = 11;
+
 const SESSION_BITS: u32 = 3;
+
 const RUNS: u64 = 1 << WHO_BITS;
+
 const SERIAL: u64 = RUNS << 1;
 
 /// What threads share of a step. A word names it: its serial number, whether it runs, its tenant and its session.
@@ -63,7 +66,9 @@ impl StepWatch {
         let serial = self.shared.step.load(Ordering::SeqCst) / SERIAL;
         let word = serial.wrapping_add(1).wrapping_mul(SERIAL);
         self.shared.considered.store(0, Ordering::SeqCst);
-        self.shared.step.store(word | RUNS | who(tenant, session), Ordering::SeqCst);
+        self.shared
+            .step
+            .store(word | RUNS | who(tenant, session), Ordering::SeqCst);
     }
 
     /// Tells that the step is over.
