@@ -70,7 +70,7 @@ impl Store {
 
     /// Sets the most bytes that rows and open transactions may take, if there is a limit.
     pub(crate) fn limit_memory(&mut self, room: Option<u64>)
-        ensures same { self.new ≡ record self.old { database = record self.old.database { memory = self.new.database.memory } } }
+        ensures { self.new ≡ record self.old { database = record self.old.database { memory = self.new.database.memory } } }
     {
         self.database.memory.set_room(room);
     }
