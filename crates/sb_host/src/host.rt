@@ -12,7 +12,7 @@ use crate::reading::{Reading, Tried};
 use crate::session::Session;
 use sb_desk::seats::Seats;
 use sb_desk::{AttachError, CallError, Gate, Naming, Receipts};
-use sb_tenant::{Entry, Volume};
+use sb_tenant::{Entry, StepWatch, Volume};
 use sb_value::{SESSION_LIMIT, SessionId};
 use std::alloc::{AllocError, Global};
 use std::marker::Model;
@@ -29,6 +29,8 @@ pub struct Host<N: Naming> {
     pub(crate) second: LockGroup<N, 4, 5, 6, 7>,
     pub(crate) third: LockGroup<N, 8, 9, 10, 11>,
     pub(crate) fourth: LockGroup<N, 12, 13, 14, 15>,
+    /// Who is told of the steps of each cell while they run.
+    pub(crate) watches: Vec<StepWatch>,
 }
 
 impl<N: Naming> Drop for Host<N> {
@@ -42,6 +44,7 @@ impl<N: Naming> Drop for Host<N> {
             second: _,
             third: _,
             fourth: _,
+            watches: _,
         } = self;
     }
 }
@@ -141,6 +144,11 @@ impl<N: Naming> Host<N> {
         }
     }
 
+    /// Who is told of the steps of this cell while they run.
+    pub fn watch(&self, cell: usize) -> Option<&StepWatch> {
+        self.watches.get(cell)
+    }
+
     /// Lets each tenant take so many bytes from now on (`Tenant::limit_memory`).
     pub fn limit_memory<R: Wait>(&self, rt: &R, bytes: u64) {
         self.first.limit_memory(rt, bytes);
@@ -235,6 +243,7 @@ impl<N: Naming> Host<N> {
             second,
             third,
             fourth,
+            watches: _,
         } = self;
         first.put(&mut trails, &mut volumes);
         second.put(&mut trails, &mut volumes);

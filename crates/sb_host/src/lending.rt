@@ -5,6 +5,7 @@ ghost use Rattle.sb_host.specs.Lending.{Lends};
 use crate::host::Host;
 use crate::reading::{Reading, Tried};
 use sb_desk::{Hosting, Naming};
+use sb_tenant::StepWatch;
 use std::sync::Wait;
 
 /// A host whose tenants are read as they stand between two steps.
@@ -20,6 +21,9 @@ pub trait Lending: Hosting {
         ensures there { (result ≡ Tried.NoTenant) ↔ (Self.tenants self.now ≤ tenant) }
         ensures read { result ≡ Tried.Read → Lends (V.reads reading.old) tenant reading.new }
         ensures none { (result ≡ Tried.Read → ⊥) → reading.new ≡ reading.old };
+
+    /// Who is told of the steps of this cell while they run.
+    fn watch(&self, cell: usize) -> Option<&StepWatch>;
 }
 
 impl<'h, N: Naming> Lending for &'h Host<N> {
@@ -29,5 +33,9 @@ impl<'h, N: Naming> Lending for &'h Host<N> {
 
     fn try_read<V: Reading>(&self, tenant: u32, reading: &mut V) -> Tried {
         (**self).try_read(tenant, reading)
+    }
+
+    fn watch(&self, cell: usize) -> Option<&StepWatch> {
+        (**self).watch(cell)
     }
 }

@@ -10,6 +10,7 @@ ghost use Rattle.sb_host.specs.Renewing.{IsOpening, KeepsRows, VolumeIsRenewed, 
 use crate::finish::put;
 use crate::locks::{
     Lock, Reach, admit_in, enter_in, leave_in, limit_in, read_in, renew_in, try_read_in,
+    watch_in,
 };
 use crate::opening::{HostSize, open_desk};
 use crate::reading::Reading;
@@ -17,7 +18,7 @@ use crate::renewal::{NotRenewedVolume, VolumeRenewal};
 use crate::volume_stubs::VolumeStubs;
 use sb_desk::seats::{SeatTable, SessionSeat};
 use sb_desk::{AttachError, CallError, Gate, Naming, Receipt, Receipts};
-use sb_tenant::{Entry, Tenant, Volume};
+use sb_tenant::{Entry, StepWatch, Tenant, Volume};
 use sb_value::SessionId;
 use std::alloc::{AllocError, Global};
 use std::marker::Model;
@@ -124,6 +125,14 @@ impl<N: Naming, const A: u32, const B: u32, const C: u32, const D: u32> LockGrou
         } else {
             try_read_in(&self.fourth, tenant, reading)
         }
+    }
+
+    /// Adds the watches of these cells to a list, in their order. Error: out of memory.
+    pub(crate) fn watch(&self, watches: &mut Vec<StepWatch>) -> Result<(), AllocError> {
+        watch_in(&self.first, watches)?;
+        watch_in(&self.second, watches)?;
+        watch_in(&self.third, watches)?;
+        watch_in(&self.fourth, watches)
     }
 
     /// Lets each tenant of these cells take so many bytes.

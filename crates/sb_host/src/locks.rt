@@ -10,10 +10,10 @@ use crate::volume_stubs::VolumeStubs;
 use crossbeam_utils::CachePadded;
 use sb_desk::seats::SeatTable;
 use sb_desk::{AttachError, CallError, Desk, Gate, Naming, Receipt, Receipts};
-use sb_tenant::Tenant;
+use sb_tenant::{StepWatch, Tenant};
 use sb_tenant::laws::answers_are_numbered;
 use sb_value::SessionId;
-use std::alloc::Global;
+use std::alloc::{AllocError, Global};
 use std::sync::{Mutex, Wait};
 
 /// The lock of the cell `F`, which a host with fewer cells hasn't. No other lock is on its cache lines, so threads at
@@ -74,6 +74,21 @@ pub(crate) fn limit_in<N: Naming, const F: u32, R: Wait>(rt: &R, lock: &Lock<N, 
         let mut desk = lock.lock(rt);
         desk.limit_memory(bytes);
     }
+}
+
+/// Adds the watch of the cell to a list, if the host has the cell. Error: out of memory, or the lock is held.
+pub(crate) fn watch_in<N: Naming, const F: u32>(
+    lock: &Lock<N, F>,
+    watches: &mut Vec<StepWatch>,
+) -> Result<(), AllocError> {
+    let Some(lock) = lock else {
+        return Ok(());
+    };
+    let Some(desk) = lock.try_lock() else {
+        return Err(AllocError);
+    };
+    watches.push(desk.cell().watch().share()?)?;
+    Ok(())
 }
 
 /// Makes the step of the line that is ready.

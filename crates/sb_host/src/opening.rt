@@ -194,6 +194,11 @@ impl<N: Naming> Host<N> {
             alloc, table, &mut all, &mut rest, numbers,
         )?;
         let closed_parts = ClosedParts::new(alloc, numbers.tenants, &mut rest)?;
+        let mut watches = Vec::new(alloc);
+        first.watch(&mut watches)?;
+        second.watch(&mut watches)?;
+        third.watch(&mut watches)?;
+        fourth.watch(&mut watches)?;
         Ok(Host {
             tenants: numbers.tenants,
             cells: numbers.cells,
@@ -203,6 +208,7 @@ impl<N: Naming> Host<N> {
             second,
             third,
             fourth,
+            watches,
         })
     }
 }

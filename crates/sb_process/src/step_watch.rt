@@ -36,6 +36,9 @@ pub struct StepWatch {
 pub struct RunningStep {
     /// No two steps of a cell have one word.
     pub word: u64,
+    pub tenant: u32,
+    /// The number of the session.
+    pub session: u32,
     /// How many rules it has considered, with the one that it considers.
     pub considered: u64,
 }
@@ -87,14 +90,16 @@ impl StepWatch {
         self.shared.to_end.load(Ordering::SeqCst) != word
     }
 
-    /// The step of a session, if it runs.
-    pub fn running(&self, tenant: u32, session: SessionId) -> Option<RunningStep> {
+    /// The step that runs, if one does.
+    pub fn running(&self) -> Option<RunningStep> {
         let word = self.shared.step.load(Ordering::SeqCst);
-        if word % SERIAL != RUNS | who(tenant, session) {
+        if word & RUNS == 0 {
             return None;
         }
         Some(RunningStep {
             word,
+            tenant: ((word >> SESSION_BITS) % 256) as u32,
+            session: (word % 8) as u32,
             considered: self.shared.considered.load(Ordering::SeqCst),
         })
     }
@@ -107,15 +112,9 @@ impl StepWatch {
         }
     }
 
-    /// Has the step of a session end at its next consideration, as one for which there is no memory. False if none runs.
-    pub fn end(&self, tenant: u32, session: SessionId) -> bool {
-        match self.running(tenant, session) {
-            Some(step) => {
-                self.shared.to_end.store(step.word, Ordering::SeqCst);
-                true
-            }
-            None => false,
-        }
+    /// Has a step end at its next consideration, as one for which there is no memory. One that is over isn't touched.
+    pub fn end(&self, step: &RunningStep) {
+        self.shared.to_end.store(step.word, Ordering::SeqCst);
     }
 }
 

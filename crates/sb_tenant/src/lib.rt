@@ -32,5 +32,6 @@ pub use alike::{are_alike, is_busy};
 pub use lines::KnownLines;
 pub use places::reserve_here;
 pub use reply::{Answer, Entry, Line, NamedTrace, Reply, RuleError, RuleName};
+pub use sb_process::{RunningStep, StepWatch};
 pub use tenant::{END, NotBegun, OPEN, Sent, TRAIL_LIMIT, Tenant};
 pub use volume::Volume;
