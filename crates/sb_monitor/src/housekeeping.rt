@@ -1,7 +1,8 @@
-//! The background task of a server: its keys are read again, tenants without a connection are renewed, and a long stop
-//! writes its tenants.
+//! The background task of a server: its keys are read again, tenants without a connection are renewed, steps that run for
+//! long are logged, and a long stop writes its tenants.
 
 use crate::listener::is_closed;
+use crate::running_steps::RunningSteps;
 use crate::server_control::{ServerControl, ServerControls};
 use sb_backup::TenantSaver;
 use sb_host::{Hosting, Lending};
@@ -123,13 +124,14 @@ impl<'i, H: Hosting, E: Renewals> IdleRenewals<'i, H, E> {
     }
 }
 
-/// Looks at a chore, at tenants that are to be renewed, and at a long stop where tenants are written behind the server's
-/// end.
+/// Looks at a chore, at tenants that are to be renewed, at the steps that run, and at a long stop where tenants are written
+/// behind the server's end.
 #[derive(Drop)]
 pub struct Housekeeping<'c, 'i, 's, 'r, 'j, C, E, H, T, O> {
     pub chore: &'c C,
     /// None where no tenant is renewed by itself.
     pub idle_renewals: Option<IdleRenewals<'i, H, E>>,
+    pub running_steps: RunningSteps<'c, H, O>,
     /// None where no tenants are written.
     pub long_stop: Option<LongStop<'s, 'r, 'j, H, T, O>>,
 }
@@ -137,10 +139,6 @@ pub struct Housekeeping<'c, 'i, 's, 'r, 'j, C, E, H, T, O> {
 impl<'c, 'i, 's, 'r, 'j, C: Chore, E: Renewals, H: Lending, T: Files, O: Log> BackgroundTask
     for Housekeeping<'c, 'i, 's, 'r, 'j, C, E, H, T, O> {
     fn run<R: Wait>(&self, rt: &R, over: &ShutdownSignal) {
-        // where a thread can't be started, its job may wait for the end of this one
-        if self.chore.is_idle() && self.idle_renewals.is_none() && self.long_stop.is_none() {
-            return;
-        }
         let mut seen = self.chore.first();
         for _ in rt.forever() {
             if !over.lasts(rt) {
@@ -150,6 +148,7 @@ impl<'c, 'i, 's, 'r, 'j, C: Chore, E: Renewals, H: Lending, T: Files, O: Log> Ba
             if let Some(idle_renewals) = &self.idle_renewals {
                 idle_renewals.look(rt);
             }
+            self.running_steps.look();
             if let Some(long_stop) = &self.long_stop {
                 long_stop.look();
             }

@@ -18,6 +18,7 @@ mod refusal_names;
 mod renewal_board;
 mod renewal_notes;
 mod room_reading;
+mod running_steps;
 mod sender;
 mod server_control;
 mod session_board;
@@ -29,6 +30,7 @@ mod tenant_renewals;
 mod tenant_script;
 
 pub use event_log::EventLog;
+pub use running_steps::RunningSteps;
 pub use housekeeping::{Chore, Housekeeping, IdleRenewals, LongStop, NoChore};
 pub use journal_hook::{JournalHook, SyncedChore};
 pub use listener::{ListenError, is_closed, listen};

@@ -402,6 +402,7 @@ impl<'k, H: Lending, A: Admission, T: Wait + Clock, E: ServerControl> Pages<'k, 
         if !self.may_be_open(place, ended.session) {
             return Ok(Outcome::Refused(HttpRefusal::NoSession));
         }
+        self.end_step(place, ended.session);
         let named = SessionName {
             tenant: ended.tenant,
             session: ended.session,
@@ -410,6 +411,18 @@ impl<'k, H: Lending, A: Admission, T: Wait + Clock, E: ServerControl> Pages<'k, 
             return Ok(Outcome::Refused(HttpRefusal::WorkerBusy));
         }
         Ok(accepted(b"told\n".to_vec(self.alloc)?))
+    }
+
+    /// Has the step of a session of the tenant at this place end at its next consideration, if it runs.
+    fn end_step(&self, place: u32, session: u32) {
+        let Some(watch) = self.host.watch(self.cell_of(place)) else {
+            return;
+        };
+        if let Some(step) = watch.running() {
+            if step.tenant == place && step.session == session {
+                watch.end(&step);
+            }
+        }
     }
 
     /// Asks a worker to renew a tenant.
