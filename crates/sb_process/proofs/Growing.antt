@@ -29,6 +29,7 @@ use Rattle.sb_index.specs.TableSets.{TableSets}
 use Rattle.sb_locks.specs.Held.{held}
 use Rattle.sb_catalog.specs.declared.rule.Rule.{Rule}
 use Rattle.sb_process.specs.declared.database.Database.{Database}
+use Rattle.sb_process.specs.declared.memory_use.MemoryUse.{MemoryUse}
 use Rattle.sb_process.specs.Made.{AreStored, AreMade}
 use Rattle.sb_catalog.specs.Definitions.{AreIndexed}
 use Rattle.sb_process.specs.Represents.{Represents, AreCandidates, AreLocked, who_in}
@@ -202,12 +203,12 @@ locked_more locks session c (d ∷ cs) h e = (h.0, locked_more locks session c c
 -- ---- the transaction
 
 pub with_change : (trig : LastChangeTriggers) (lives : ProperListsHaveLives) (index : List (List TableSets)) (d : Database) (session : ℕ) (records more : List Record) (clock later : ℕ) (setting : Setting) (progress : Progress)
-    (origin : List Held) (c : Change) (tables : List Held) (kept : Kept) (set : List Bool) → Represents origin d session records clock setting progress → AreIndexed index d.id setting.rules →
+    (origin : List Held) (c : Change) (tables : List Held) (kept : Kept) (memory : MemoryUse) (set : List Bool) → Represents origin d session records clock setting progress → AreIndexed index d.id setting.rules →
     author c ≡ who_in d session → held d.locks session c.table Write ≡ true → AreMade origin (progress.changes ++ c ∷ []) tables →
     ((s r : ℕ) → mark_of kept s r ≡ mark_of d.transactions s r) → ((s r : ℕ) → tested_of kept s r ≡ tested_of d.transactions s r) → ((s r : ℕ) → is_candidate_of kept s r ≡ (is_candidate_of d.transactions s r || ((nat_eq s session) && flag_at set r))) →
     ((r : ℕ) → flag_at set r ≡ kind_triggers c.kind (triggers_of index c.tenant c.table r) c) → more ≡ records ++ (clock, c) ∷ [] → changes_by (author c) more ≡ changes_by (author c) records ++ c ∷ [] →
-    later ≡ clock + 1 → Represents origin (record d { tables = tables; transactions = kept }) session more later setting (record progress { changes = progress.changes ++ c ∷ [] })
-with_change trig lives index d session records more clock later setting progress origin c tables kept set r indexed by locked made marks tested candidates flags appended own moved =
+    later ≡ clock + 1 → Represents origin (record d { tables = tables; transactions = kept; memory = memory }) session more later setting (record progress { changes = progress.changes ++ c ∷ [] })
+with_change trig lives index d session records more clock later setting progress origin c tables kept memory set r indexed by locked made marks tested candidates flags appended own moved =
     let who : Who = who_in d session in
     let cs : List Change = progress.changes ++ c ∷ [] in
     let within = λ (rule : ℕ).

@@ -52,6 +52,15 @@ returns-in-Some-next_rule-clause-under_way g c = λ origin setting progress w.
 pub returns-in-Some-next_rule-clause-leaves : goal.returns-in-Some-next_rule-clause-leaves
 returns-in-Some-next_rule-clause-leaves g c = leaves-more (32768 * c.args.point.now.bound) (leaves-on c.loop-turn.invariant.leaves (leaves-tables 0 c.next_rule-2.ensures.only_candidates c.next_rule-2.ensures.sessions)) (omega (arith, c.loop-turn.auto._turn-end))
 
+-- ---- the step is to end
+
+pub returns-in_err-note-clause-under_way : goal.returns-in_err-note-clause-under_way
+returns-in_err-note-clause-under_way g c = λ origin setting progress w.
+    let r = c.loop-turn.invariant.reached origin setting progress w in (r.after, looked-on w r c.loop-turn.invariant.leaves.id (c.next_rule.ensures.work origin setting r.after))
+
+pub returns-in_err-note-clause-leaves : goal.returns-in_err-note-clause-leaves
+returns-in_err-note-clause-leaves g c = leaves-more (32768 * c.args.point.now.bound) (leaves-on c.loop-turn.invariant.leaves (leaves-tables 0 c.next_rule.ensures.only_candidates c.next_rule.ensures.sessions)) (omega (arith, c.loop-turn-test.true))
+
 -- ---- a rule is considered
 
 pub consider_noted-requires-clause-running : goal.consider_noted-requires-clause-running

@@ -15,6 +15,10 @@ apply-requires-clause-can g c =
     (room-below 18446744073709547519 c.requires.room (omega arith))
     c.prepare.ensures.same c.in-Ok.ensures.few c.in-Ok.ensures.table)
 
+-- nothing has changed where the tenant's share has no room
+pub returns-then-not-allows-clause-leaves : goal.returns-then-not-allows-clause-leaves
+returns-then-not-allows-clause-leaves g c = leaves-more 4096 (leaves-prepared c.args.self.now {tables = c.args.self.now.tables} refl refl refl) (omega arith)
+
 -- the changes are made of the tables with room for them
 pub returns-in-Ok-clause-made : goal.returns-in-Ok-clause-made
 returns-in-Ok-clause-made g c = λ origin setting progress w.
