@@ -233,21 +233,21 @@ with_memory store memory = record store { database = record store.database { mem
 
 pub holds_limited : (store : Store) (memory : MemoryUse) (state : State) → (origin : List Held) × Holds origin store state → (origin : List Held) × Holds origin (with_memory store memory) state
 holds_limited store memory state (origin, h) = (
-    origin,
-    record {
-      committed = h.committed;
-      made = h.made;
-      locked = h.locked;
-      exclusive = h.exclusive;
-      locks = h.locks;
-      phases = h.phases;
-      candidates = h.candidates;
-      rules = h.rules;
-      ordered = h.ordered;
-      rulesets = h.rulesets;
-      runnable = h.runnable;
-    },
-  )
+  origin,
+  record {
+    committed = h.committed;
+    made = h.made;
+    locked = h.locked;
+    exclusive = h.exclusive;
+    locks = h.locks;
+    phases = h.phases;
+    candidates = h.candidates;
+    rules = h.rules;
+    ordered = h.ordered;
+    rulesets = h.rulesets;
+    runnable = h.runnable;
+  },
+)
 
 pub leaves_limited : (store : Store) (memory : MemoryUse) (n : ℕ) (new : Store) (s : ℕ) (records records' : List Record) (clock clock' : ℕ)
     → Leaves n (with_memory store memory) new s records records' clock clock' → Leaves n store new s records records' clock clock'

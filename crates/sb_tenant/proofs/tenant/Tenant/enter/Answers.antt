@@ -63,7 +63,7 @@ answered_for : (g : Over) (c : goal.After-put g) → Performs c.answer-reply.new
     (reply_to c.self.inside.store.database.id c.self.inside.bound (state (seen c.self.inside)) c.args.session c.args.sent.now.line.now) c.answer-reply.result.0
 answered_for g c =
     subst (λ (x : Store). Performs c.answer-reply.new.self (g.L.ChangeLog.records c.answer-reply.new.log) (g.L.ChangeLog.clock c.answer-reply.new.log) c.answer-reply.new.index (state (seen c.self.inside)) c.args.session
-        (reply_to x.database.id c.self.inside.bound (state (seen c.self.inside)) c.args.session c.args.sent.now.line.now) c.answer-reply.result.0)
+    (reply_to x.database.id c.self.inside.bound (state (seen c.self.inside)) c.args.session c.args.sent.now.line.now) c.answer-reply.result.0)
     c.limit_memory.ensures (c.answer-reply.ensures.answered (state (seen c.self.inside)) (stands g c))
 
 others : (g : Over) (c : goal.After-put g) → OtherTenantsStay c.self.inside.store.database.id c.args.index.now c.answer-reply.new.index
