@@ -10,6 +10,10 @@ pub run_out-requires : goal.run_out-requires
 run_out-requires g c =
     let w = rows-aside c.tables_are_shared.ensures.laws c.tables_are_shared.ensures.in_range c.requires.stand.2 c.select.ensures.only_locks c.requires.active (c.in-Ok.ensures.selected (g.L.ChangeLog.records c.args.log.now) (g.L.ChangeLog.clock c.args.log.now)) in (c.requires.stand.0, w.0, w.1)
 
+pub run_out-requires-in-Err-shared : goal.run_out-requires-in-Err-shared
+run_out-requires-in-Err-shared g c =
+    let w = rows-aside c.tables_are_shared.ensures.laws c.tables_are_shared.ensures.in_range c.requires.stand.2 c.select.ensures.only_locks c.requires.active (c.in-Ok.ensures.selected (g.L.ChangeLog.records c.args.log.now) (g.L.ChangeLog.clock c.args.log.now)) in (c.requires.stand.0, w.0, w.1)
+
 pub refuse-requires : goal.refuse-requires
 refuse-requires g c =
     let w = rows-aside c.tables_are_shared.ensures.laws c.tables_are_shared.ensures.in_range c.requires.stand.2 c.select.ensures.only_locks c.requires.active (c.in-Err.ensures.selected (g.L.ChangeLog.records c.args.log.now) (g.L.ChangeLog.clock c.args.log.now)) in (c.requires.stand.0, w.0, w.1)
@@ -21,6 +25,10 @@ returns-in-Ok-shared-clause-performed g c = λ index state st bound.
 
 pub returns-in-Err-shared-clause-performed : goal.returns-in-Err-shared-clause-performed
 returns-in-Err-shared-clause-performed g c = λ index state st bound.
+    c.run_out-in-Err-shared.ensures.performed index state _ (rows-aside c.tables_are_shared.ensures.laws c.tables_are_shared.ensures.in_range st c.select.ensures.only_locks c.requires.active (c.in-Ok.ensures.selected (g.L.ChangeLog.records c.args.log.now) (g.L.ChangeLog.clock c.args.log.now)))
+
+pub returns-then-not-has_room_for-clause-performed : goal.returns-then-not-has_room_for-clause-performed
+returns-then-not-has_room_for-clause-performed g c = λ index state st bound.
     c.run_out.ensures.performed index state _ (rows-aside c.tables_are_shared.ensures.laws c.tables_are_shared.ensures.in_range st c.select.ensures.only_locks c.requires.active (c.in-Ok.ensures.selected (g.L.ChangeLog.records c.args.log.now) (g.L.ChangeLog.clock c.args.log.now)))
 
 pub returns-in-Err-clause-performed : goal.returns-in-Err-clause-performed
@@ -33,7 +41,10 @@ pub returns-in-Ok-shared-clause-leaves : goal.returns-in-Ok-shared-clause-leaves
 returns-in-Ok-shared-clause-leaves g c = leaves_same 0 (ap (λ (d : Database). d.id) c.select.ensures.only_locks) (ap (λ (d : Database). d.tables) c.select.ensures.only_locks)
 
 pub returns-in-Err-shared-clause-leaves : goal.returns-in-Err-shared-clause-leaves
-returns-in-Err-shared-clause-leaves g c = leaves_on (leaves_same 0 (ap (λ (d : Database). d.id) c.select.ensures.only_locks) (ap (λ (d : Database). d.tables) c.select.ensures.only_locks)) c.run_out.ensures.leaves
+returns-in-Err-shared-clause-leaves g c = leaves_on (leaves_same 0 (ap (λ (d : Database). d.id) c.select.ensures.only_locks) (ap (λ (d : Database). d.tables) c.select.ensures.only_locks)) c.run_out-in-Err-shared.ensures.leaves
+
+pub returns-then-not-has_room_for-clause-leaves : goal.returns-then-not-has_room_for-clause-leaves
+returns-then-not-has_room_for-clause-leaves g c = leaves_on (leaves_same 0 (ap (λ (d : Database). d.id) c.select.ensures.only_locks) (ap (λ (d : Database). d.tables) c.select.ensures.only_locks)) c.run_out.ensures.leaves
 
 pub returns-in-Err-clause-leaves : goal.returns-in-Err-clause-leaves
 returns-in-Err-clause-leaves g c = leaves_on (leaves_same 0 (ap (λ (d : Database). d.id) c.select.ensures.only_locks) (ap (λ (d : Database). d.tables) c.select.ensures.only_locks)) c.refuse.ensures.leaves

@@ -1,11 +1,15 @@
-use Rattle.std.proofs.Common.{◌≡◌, ◌≤◌, ◌^◌, ◌∙◌, ◌++◌, ◌∷◌, [], List, sym, subst, refl, length, false, Some, arith}
+use Rattle.std.proofs.Common.{◌≡◌, ℕ, ◌≤◌, ◌^◌, ◌∙◌, ◌++◌, ◌∷◌, [], List, sym, subst, refl, length, false, Some, arith}
 use Rattle.sb_tenant.specs.declared.reply.Entry.{Entry}
 use Rattle.sb_tenant.specs.declared.reply.Reply.{Reply}
 use Rattle.sb_tenant.specs.declared.tenant.Tenant.TheInside.{Inside}
 use Rattle.sb_tenant.specs.Remembered.{seen}
 use Rattle.sb_tenant.specs.State.{State}
 use Rattle.sb_tenant.specs.declared.store.Store.{Store}
-use Rattle.sb_tenant.specs.Represents.{Leaves, Performs, StandFor}
+use Rattle.sb_tenant.specs.Represents.{Holds, Leaves, Performs, StandFor}
+use Rattle.sb_tenant.specs.Logged.{Agrees}
+use Rattle.sb_rawlog.specs.Records.{Record}
+use Rattle.sb_index.specs.TableSets.{TableSets}
+use Rattle.sb_tables.specs.Held.{Held}
 use Rattle.sb_process.specs.Made.{NumbersBelow}
 use Rattle.sb_catalog.specs.Definitions.{OtherTenantsStay}
 use Rattle.sb_tenant.specs.Step.{is_full_for, is_end_of_open, reply_to}
@@ -22,22 +26,20 @@ pub invariant_of-self : goal.invariant_of-self
 invariant_of-self g c =
     still_remembered c.self.inside _ c.self.invariant refl refl refl c.make_ready.ensures.items c.make_ready.ensures.len c.make_ready.ensures.capacity c.make_ready.ensures.ends
 
--- the store as it was, with its share of memory
-limited : (g : Over) (c : goal.After-limit_memory g) → c.limit_memory.new.self ≡ with_memory c.self.inside.store c.limit_memory.new.self.database.memory
-limited g c = c.limit_memory.ensures
-
-stands : (g : Over) (c : goal.After-limit_memory g) → StandFor c.limit_memory.new.self (g.L.ChangeLog.records c.args.log.now) (g.L.ChangeLog.clock c.args.log.now) c.args.index.now (state (seen c.self.inside))
-stands g c =
-    let agrees = subst (λ (v : Tenant). InStep v (g.L.ChangeLog.records c.args.log.now) (g.L.ChangeLog.clock c.args.log.now) c.args.index.now) (sym c.self.view_is) c.requires.in_step in
-    subst (λ (x : Store). StandFor x (g.L.ChangeLog.records c.args.log.now) (g.L.ChangeLog.clock c.args.log.now) c.args.index.now (state (seen c.self.inside))) (sym (limited g c))
-    (holds_limited c.self.inside.store _ (state (seen c.self.inside)) c.self.invariant.holds, agrees)
+-- what stood for a state with the store stands for it with its share of memory
+stands_of : (store limited : Store) (records : List Record) (clock : ℕ) (index : List (List TableSets)) (state : State) → limited ≡ with_memory store limited.database.memory
+    → (origin : List Held) × Holds origin store state → Agrees store.database.id state store.database.transactions records clock index → StandFor limited records clock index state
+stands_of store limited records clock index state same holds agrees =
+    subst (λ (x : Store). StandFor x records clock index state) (sym same) (holds_limited store limited.database.memory state holds, agrees)
 
 pub answer-reply-requires-clause-stand : goal.answer-reply-requires-clause-stand
-answer-reply-requires-clause-stand g c = (state (seen c.self.inside), stands g c)
+answer-reply-requires-clause-stand g c =
+    let agrees = subst (λ (v : Tenant). InStep v (g.L.ChangeLog.records c.args.log.now) (g.L.ChangeLog.clock c.args.log.now) c.args.index.now) (sym c.self.view_is) c.requires.in_step in
+    (state (seen c.self.inside), stands_of c.self.inside.store c.limit_memory.new.self _ _ _ (state (seen c.self.inside)) c.limit_memory.ensures c.self.invariant.holds agrees)
 
 pub answer-reply-requires-clause-numbers : goal.answer-reply-requires-clause-numbers
 answer-reply-requires-clause-numbers g c =
-    subst (λ (x : Store). NumbersBelow (2 ^ 63) x.database.tables) (sym (limited g c))
+    subst (λ (x : Store). NumbersBelow (2 ^ 63) x.database.tables) (sym c.limit_memory.ensures)
     (c.self.invariant.numbers _ (few_numbers (length c.self.inside.trail.items) (few_entries (seen c.self.inside) c.self.invariant.legal)))
 
 pub put-requires-clause-few : goal.put-requires-clause-few
@@ -64,7 +66,11 @@ answered_for : (g : Over) (c : goal.After-put g) → Performs c.answer-reply.new
 answered_for g c =
     subst (λ (x : Store). Performs c.answer-reply.new.self (g.L.ChangeLog.records c.answer-reply.new.log) (g.L.ChangeLog.clock c.answer-reply.new.log) c.answer-reply.new.index (state (seen c.self.inside)) c.args.session
     (reply_to x.database.id c.self.inside.bound (state (seen c.self.inside)) c.args.session c.args.sent.now.line.now) c.answer-reply.result.0)
-    c.limit_memory.ensures (c.answer-reply.ensures.answered (state (seen c.self.inside)) (stands g c))
+    c.limit_memory.ensures
+    (
+      let agrees = subst (λ (v : Tenant). InStep v (g.L.ChangeLog.records c.args.log.now) (g.L.ChangeLog.clock c.args.log.now) c.args.index.now) (sym c.self.view_is) c.requires.in_step in
+      c.answer-reply.ensures.answered (state (seen c.self.inside)) (stands_of c.self.inside.store c.limit_memory.new.self _ _ _ (state (seen c.self.inside)) c.limit_memory.ensures c.self.invariant.holds agrees)
+    )
 
 others : (g : Over) (c : goal.After-put g) → OtherTenantsStay c.self.inside.store.database.id c.args.index.now c.answer-reply.new.index
 others g c = subst (λ (x : Store). OtherTenantsStay x.database.id c.args.index.now c.answer-reply.new.index) c.limit_memory.ensures c.answer-reply.ensures.others
