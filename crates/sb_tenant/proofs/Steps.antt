@@ -10,7 +10,6 @@ use Rattle.sb_index.specs.TableSets.{TableSets}
 use Rattle.sb_tables.specs.Held.{Held}
 use Rattle.sb_catalog.specs.Definitions.{OtherTenantsStay}
 use Rattle.sb_process.specs.declared.database.Database.{Database}
-use Rattle.sb_process.specs.declared.memory_use.MemoryUse.{MemoryUse}
 use Rattle.sb_process.specs.Made.{NumbersBelow}
 use Rattle.sb_process.specs.Transactions.{Kept, mark_of, tested_of}
 use Rattle.sb_tenant.specs.declared.phase.Phase.TheVariants.{Closed}
@@ -225,33 +224,6 @@ still_remembered t new r bound volume store items len capacity ends = record {
   where
     seen_is : seen new ≡ seen t
     seen_is = λ i. record { id = (store i).database.id; bound = bound i; trail = items i; volume = volume i; transactions = (store i).database.transactions }
-
--- ---- a store with a share of memory
-
-abbrev pub with_memory : Store → MemoryUse → Store
-with_memory store memory = record store { database = record store.database { memory = memory } }
-
-pub holds_limited : (store : Store) (memory : MemoryUse) (state : State) → (origin : List Held) × Holds origin store state → (origin : List Held) × Holds origin (with_memory store memory) state
-holds_limited store memory state (origin, h) = (
-  origin,
-  record {
-    committed = h.committed;
-    made = h.made;
-    locked = h.locked;
-    exclusive = h.exclusive;
-    locks = h.locks;
-    phases = h.phases;
-    candidates = h.candidates;
-    rules = h.rules;
-    ordered = h.ordered;
-    rulesets = h.rulesets;
-    runnable = h.runnable;
-  },
-)
-
-pub leaves_limited : (store : Store) (memory : MemoryUse) (n : ℕ) (new : Store) (s : ℕ) (records records' : List Record) (clock clock' : ℕ)
-    → Leaves n (with_memory store memory) new s records records' clock clock' → Leaves n store new s records records' clock clock'
-leaves_limited store memory n new s records records' clock clock' l = record { id = l.id; others = l.others; times = l.times; numbers = l.numbers }
 
 -- ---- the calls of a tenant
 

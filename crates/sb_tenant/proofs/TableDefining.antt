@@ -17,6 +17,8 @@ use Rattle.sb_catalog.specs.Uses.{is_used}
 use Rattle.sb_catalog.specs.declared.rule.Rule.{Rule}
 use Rattle.sb_tables.specs.Held.{Held, entries, entry_of, no_rows, named, has_number, with_table, without_table}
 use Rattle.sb_tenant.specs.declared.store.Store.{Store}
+use Rattle.sb_process.specs.declared.memory_use.MemoryUse.{MemoryUse}
+use Rattle.sb_tenant.proofs.Shares.{holds_limited, with_memory}
 use Rattle.sb_tenant.specs.Catalog as catalog
 use Rattle.sb_tenant.specs.Defining.{Defines, IsAtRest}
 use Rattle.sb_tenant.specs.Limits.{table_limit}
@@ -30,6 +32,9 @@ use Rattle.sb_tenant.proofs.Runnable.{run_more, run_less}
 use Rattle.sb_tenant.proofs.TableCommands.{outside, walk_new, walk_old, old_at, walk_old_at, made_last, committed_last, stays_last, least_number, made_less, committed_less, stays_less}
 
 -- the store with other tables
+limited : (store : Store) (memory : MemoryUse) (records : List Record) (clock : ℕ) (index : List (List TableSets)) (state : State) → StandFor store records clock index state → StandFor (with_memory store memory) records clock index state
+limited store memory records clock index state (holds, agrees) = (holds_limited store memory state holds, agrees)
+
 abbrev pub with_tables : Store → List Held → Store
 with_tables store tables = record store { database = record store.database { tables = tables } }
 
@@ -121,21 +126,21 @@ module _ (old : Store) (index : List (List TableSets)) (rest : IsAtRest old.phas
         refused_here (text.drop_table name) old index refusal.TableInUse
         (λ records clock state h. inl (old_is records clock state (Some id) h found ∙ ap (λ (b : Bool). required (not b) refusal.TableInUse (Ok (drop_table id))) used))
 
-    pub table_dropped : (id : ℕ) → number ≡ Some id → is_used old.definitions.rules id ≡ false → Defines old (with_tables old (without_table id tables)) index index (text.drop_table name) (Ok tt)
-    table_dropped id found free = record {
-      done = λ records clock state tenant bound s h. is_done (text.drop_table name) (with_tables old (without_table id tables)) records clock index index state tenant bound s (performed records clock state h);
+    pub table_dropped : (id : ℕ) (memory : MemoryUse) → number ≡ Some id → is_used old.definitions.rules id ≡ false → Defines old (with_memory (with_tables old (without_table id tables)) memory) index index (text.drop_table name) (Ok tt)
+    table_dropped id memory found free = record {
+      done = λ records clock state tenant bound s h. is_done (text.drop_table name) (with_memory (with_tables old (without_table id tables)) memory) records clock index index state tenant bound s (performed records clock state h);
       id = refl;
       numbers = λ n. fewer_below n id tables;
       others = λ n table operation id other. refl;
     }
       where
-        performed : (records : List Record) (clock : ℕ) (state : State) → StandFor old records clock index state → IsPerformed (text.drop_table name) (with_tables old (without_table id tables)) records clock index state
+        performed : (records : List Record) (clock : ℕ) (state : State) → StandFor old records clock index state → IsPerformed (text.drop_table name) (with_memory (with_tables old (without_table id tables)) memory) records clock index state
         performed records clock state h = record {
           resolved = drop_table id;
           catalog = catalog.without_table state.catalog id;
           walked = old_is records clock state (Some id) h found ∙ ap (λ (b : Bool). required (not b) refusal.TableInUse (Ok (drop_table id))) free;
           performed = λ tenant bound s. refl;
-          stands =
+          stands = limited (with_tables old (without_table id tables)) memory records clock index _ (
               stands_anew old records clock index index state (without_table id h.0.0) (without_table id tables) old.definitions (catalog.without_table state.catalog id) rest h
               (record {
                 committed = committed_less h.0.0 state.catalog.tables id h.0.1.committed;
@@ -146,5 +151,5 @@ module _ (old : Store) (index : List (List TableSets)) (rest : IsAtRest old.phas
                 runnable =
                     run_less tables (without_table id tables) id (stays_less tables id) state.catalog.rules (ap (λ (rs : List Rule). is_used rs id) (sym h.0.1.rules) ∙ free) h.0.1.runnable;
                 indexed = h.1.indexed;
-              });
+              }));
         }

@@ -17,7 +17,8 @@ use Rattle.sb_tenant.specs.Tenant.{Tenant, IsSame, MakesStep, state}
 use Rattle.sb_tenant.specs.Lending.{InStep, StaysInStep}
 use Rattle.sb_tenant.specs.Trail.{entry_of}
 use Rattle.sb_tenant.proofs.ReplayLaws.{open_at_most}
-use Rattle.sb_tenant.proofs.Steps.{holds_limited, leaves_limited, with_memory, IsEntered, few_entries, few_numbers, performed, still_remembered, entered_in_step, entered_legal, entered_made, entered_remembered}
+use Rattle.sb_tenant.proofs.Shares.{holds_limited, leaves_limited, with_memory}
+use Rattle.sb_tenant.proofs.Steps.{IsEntered, few_entries, few_numbers, performed, still_remembered, entered_in_step, entered_legal, entered_made, entered_remembered}
 use Rattle.sb_tenant.proofs.tenant.Tenant.enter.Given.{Over}
 use Rattle.sb_tenant.proofs.tenant.Tenant.enter.Goals as goal
 use Rattle.sb_tenant.specs.Limits.{entry_limit}
