@@ -33,6 +33,7 @@ use Rattle.sb_catalog.specs.contracts.rule.Rule as Rule
 use Rattle.sb_catalog.specs.contracts.catalog.Catalog as Catalog
 use Rattle.sb_catalog.specs.contracts.definitions.Definitions as Definitions
 use Rattle.sb_process.proofs.database.Database.TheSendSync as database
+use Rattle.sb_process.proofs.step_watch.StepWatch.TheSendSync as watch
 use Rattle.sb_tenant.proofs.phase.Phases.TheSendSync as phases
 use Rattle.sb_tenant.proofs.reply.Entry.TheSendSync as entry
 use Rattle.sb_tenant.proofs.end_lines.EndLines.TheSendSync as end_lines
@@ -83,4 +84,4 @@ tenant_send : IsSend Tenant.the_row
 tenant_send = search (sendable, crosses, definitions_send, database.the_field_send, phases.the_send, entry.the_send, end_lines.the_send, known_lines.the_field_send) depth 40
 
 pub cell_send : IsSend Cell.the_row
-cell_send = search (sendable, crosses, tenant_send, log.the_send, index.the_send) depth 40
+cell_send = search (sendable, crosses, tenant_send, log.the_send, index.the_send, watch.the_send) depth 40

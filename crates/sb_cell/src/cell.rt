@@ -162,6 +162,7 @@ impl Cell {
             tenants,
             log: _,
             index: _,
+            watch: _,
         } = self;
         tenants
     }
