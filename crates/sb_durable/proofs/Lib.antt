@@ -17,6 +17,7 @@ mod Pieces
 mod Shortened
 pub mod Sending
 mod Torn
+mod Extending
 mod SegmentContents
 mod SegmentReading
 mod Chain

@@ -10,6 +10,7 @@ use Rattle.sb_durable.specs.RowJournals.{HasRow}
 use Rattle.sb_durable.specs.RowReaders.{filed}
 use Rattle.sb_durable.specs.Segment.{HasAll, head_of}
 use Rattle.sb_durable.specs.declared.row_journal.RowJournal.{RowJournal}
+use Rattle.sb_durable.specs.declared.segment.segment.Segment.{Segment}
 use Rattle.sb_durable.specs.RowJournal.{settings_of, KeepRow, FoldersCanLoseTheirOldest, RestartsAreTheSame}
 use Rattle.sb_durable.specs.declared.journal_header.Head.{Head}
 use Rattle.sb_durable.proofs.Batches.{contents-push, all_more}
@@ -118,6 +119,27 @@ module _ (settings : List ℕ) (older : List Filed) (own next : SegmentHead) (co
 
   pub contents_after : all_contents before ++ content ∷ [] ≡ all_contents (after next)
   contents_after = push_contents older (record { head = own; contents = contents }) content ∙ ap (λ (h : SegmentHead). all_contents (after h)) (sym same)
+
+-- the same segment with another file
+same_filed : {D : Type 0} (a b : Segment D) (contents : List (List ℕ)) → head_of b ≡ head_of a → filed a contents ≡ filed b contents
+same_filed a b contents same = ap (λ (h : SegmentHead). record { head = h; contents = contents }) (sym same)
+
+-- where its newest segment has what it had
+pub row_still : {D : Type 0} {g : Ghosts D} (seen : D → List ℕ) (may_leave : D → List ℕ → Type 0) (old new : RowJournal D g) (head : Head) (older : List Filed) (entries waiting : List Record)
+    → HasRow seen may_leave old head older entries waiting → ((contents : List (List ℕ)) → HasAll seen may_leave old.newest contents → HasAll seen may_leave new.newest contents)
+    → head_of new.newest ≡ head_of old.newest → new.waiting.items ≡ old.waiting.items → HasRow seen may_leave new head older entries waiting
+row_still seen may_leave old new head older entries waiting has keeps same wait =
+    let filed_still = same_filed old.newest new.newest has.contents same in
+    record {
+      contents = has.contents;
+      newest = keeps has.contents has.newest;
+      row = subst (λ (f : Filed). IsRow (older ++ f ∷ [])) filed_still has.row;
+      settings = subst (λ (f : Filed). HaveSettings (settings_of head) (older ++ f ∷ [])) filed_still has.settings;
+      batches = has.batches;
+      bytes = has.bytes ∙ ap (λ (f : Filed). all_contents (older ++ f ∷ [])) filed_still;
+      all = has.all;
+      waits = wait ∙ has.waits;
+    }
 
 -- ---- one segment more
 

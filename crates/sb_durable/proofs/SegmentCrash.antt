@@ -5,11 +5,11 @@ use Rattle.std.proofs.lemmas.List.{append-nil}
 use Rattle.sqlite_disk.specs.Disk.{Holds, Torn, Follows, Only}
 use Rattle.sqlite_disk.specs.Digest.{digest}
 use Rattle.sb_durable.specs.SegmentBlocks.{body, block, IsContent}
-use Rattle.sb_durable.specs.Head.{head_bytes, head_digest, last_digest, IsLeft, IsBeforeOrAfter}
-use Rattle.sb_durable.specs.Segment.{HasAll, head_of}
+use Rattle.sb_durable.specs.Head.{head_bytes, head_digest, last_digest, IsLeft, IsBeforeOrAfter, Stands}
+use Rattle.sb_durable.specs.Segment.{Extends, HasAll, IsAtRest, head_of}
 use Rattle.sb_durable.specs.declared.segment.place.Place.{Place}
 use Rattle.sb_durable.specs.declared.segment.segment.Segment.{Segment}
-use Rattle.sb_durable.proofs.Torn.{torn_front, torn_byte, written_behind}
+use Rattle.sb_durable.proofs.Torn.{torn_byte, written_behind}
 use Rattle.sb_durable.proofs.SegmentContents.{each-push, end-push, are-push, size-push, IsFront, front-push, length-front, stands_end, stands_shut, stands_gate}
 
 module _ {D : Type 0} (seen : D → List ℕ) (may_leave : D → List ℕ → Type 0) (segment : Segment D) (contents : List (List ℕ)) (has : HasAll seen may_leave segment contents) where
@@ -36,20 +36,27 @@ module _ {D : Type 0} (seen : D → List ℕ) (may_leave : D → List ℕ → Ty
   shut_with : (rest c : List ℕ) → length rest ≤ 2 ^ 20 + 13 → c ≡ front ++ 0 ∷ rest → IsLeft (head_of segment) contents c
   shut_with rest c few is = stands_shut (head_of segment) contents front rest c has.knows.stands.fits each front_is few is
 
+  pub end_is : segment.end.at + 1 ≡ length (seen segment.device)
+  end_is = sym (ap length now ∙ size)
+
   -- between two calls
   pub left_now : (c : List ℕ) → may_leave segment.device c → IsLeft (head_of segment) contents c
   left_now c left = shut_with [] c (omega arith) (has.durable c left ∙ now)
 
-  -- while the body is written behind the gate
-  pub left_behind : (n : ℕ) (mid : D) → n ≤ 2 ^ 20 + 13 → Follows (Torn (segment.end.at + 1) n) (may_leave segment.device) (may_leave mid) → (c : List ℕ) → may_leave mid c → IsLeft (head_of segment) contents c
-  left_behind n mid few follows c left =
-      let from = follows c left in
-      let was : from.0 ≡ front ++ 0 ∷ [] ++ [] = has.durable from.0 from.1 ∙ now ∙ sym (append-nil (front ++ 0 ∷ [])) in
-      let stays = torn_front from.0 (front ++ 0 ∷ []) [] c (segment.end.at + 1) n was (omega (arith, size)) from.2 in
-      let behind = drop (length (front ++ 0 ∷ [])) c in
-      shut_with behind c
-      (omega (arith, few, size, from.2.no_longer, ap length (has.durable from.0 from.1 ∙ now), length-drop (length (front ++ 0 ∷ [])) c))
-      (stays ∙ append_assoc front (0 ∷ []) behind)
+  -- with some bytes behind the gate
+  pub left_behind : (n : ℕ) (c : List ℕ) → n ≤ 2 ^ 20 + 13 → Extends n (seen segment.device) c → IsLeft (head_of segment) contents c
+  left_behind n c few extends =
+      shut_with extends.rest c (omega (arith, few, extends.small)) (extends.whole ∙ ap (λ (l : List ℕ). l ++ extends.rest) now ∙ append_assoc front (0 ∷ []) extends.rest)
+
+  -- where nothing of the body is left
+  pub has_still : (new : D) → seen new ≡ seen segment.device → Only (seen segment.device) (may_leave new)
+      → HasAll seen may_leave (record { device = new; beginning = segment.beginning; end = segment.end; is_settled = segment.is_settled; is_spent = false }) contents
+  has_still new same only = record {
+    knows = record { stands = subst (λ (f : List ℕ). Stands (head_of segment) contents f) (sym same) has.knows.stands; own = has.knows.own; end = has.knows.end };
+    file = subst (λ (f : List ℕ). IsAtRest (head_of segment) contents f) (sym same) has.file;
+    durable = λ c left. only c left ∙ sym same;
+    settled = has.settled;
+  }
 
   module _ (content bytes : List ℕ) (own : ℕ) (one : IsContent content) (chained : own ≡ digest segment.end.chain content) (are : bytes ≡ body own content ++ 0 ∷ []) where
     pub long : length bytes ≡ 13 + length content
@@ -61,7 +68,7 @@ module _ {D : Type 0} (seen : D → List ℕ) (may_leave : D → List ℕ → Ty
     -- the body stands behind the shut gate
     staged : (mid : D) → Torn (segment.end.at + 1) (length bytes) (seen segment.device) (seen mid) → (0 < length bytes → Holds (seen mid) (segment.end.at + 1) bytes) → seen mid ≡ front ++ 0 ∷ (body own content ++ 0 ∷ [])
     staged mid torn holds =
-        let there : segment.end.at + 1 ≡ length (seen segment.device) = sym (ap length now ∙ size) in
+        let there = end_is in
         written_behind (seen segment.device) bytes (seen mid) (subst (λ n. Torn n (length bytes) (seen segment.device) (seen mid)) there torn) (subst (λ n. Holds (seen mid) n bytes) there (holds (omega (arith, long))))
         ∙ ap (λ (l : List ℕ). l ++ bytes) now
         ∙ append_assoc front (0 ∷ []) bytes

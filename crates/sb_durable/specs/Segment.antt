@@ -1,12 +1,12 @@
 -- Promise: what a segment has, and when it isn't used any more.
-use Rattle.std.specs.Prelude.{◌≡◌, ◌≢◌, ℕ, ◌+◌, List, [], ◌∷◌, ◌++◌, length, slice_index, Option, Some, None, Result, Ok, Err, IsTrue}
+use Rattle.std.specs.Prelude.{◌≡◌, ◌≢◌, ℕ, ◌+◌, ◌≤◌, List, [], ◌∷◌, ◌++◌, length, slice_index, Option, Some, None, Result, Ok, Err, IsTrue}
 use Rattle.std.specs.List.{AllByRecursion}
 use Rattle.sqlite_disk.specs.Disk.{Only}
 use Rattle.sqlite_disk.specs.Digest.{digest}
 use Rattle.sb_durable.specs.SegmentBlocks.{AreBlocks, IsContent, IsOpen, size_of}
 use Rattle.sb_durable.specs.Head.{Head, IsHead, head_bytes, head_digest, head_size, last_digest, Stands, IsOpened}
 use Rattle.sb_durable.specs.declared.segment.error.SegmentError.{SegmentError}
-use Rattle.sb_durable.specs.declared.segment.error.SegmentError.TheVariants.{Damaged, NotBegun, CutShort}
+use Rattle.sb_durable.specs.declared.segment.error.SegmentError.TheVariants.{Damaged, NotBegun, CutShort, NoRoom}
 use Rattle.sb_durable.specs.declared.segment.place.Place.{Place}
 use Rattle.sb_durable.specs.declared.segment.beginning.Beginning.{Beginning}
 use Rattle.sb_durable.specs.declared.segment.segment.Segment.{Segment}
@@ -50,6 +50,17 @@ pub record IsBehind (head : Head) (contents : List (List ℕ)) (place : Place) :
 abbrev pub Refuses : {T : Type 0} → Result T SegmentError → Type 0
 Refuses (Ok value) = ⊥
 Refuses (Err error) = (error ≢ Damaged) × (error ≢ NotBegun) × (error ≢ CutShort)
+
+-- the same bytes, and so many more behind them at most
+pub record Extends (few : ℕ) (old new : List ℕ) : Type 0 where
+  pub rest : List ℕ
+  pub small : length rest ≤ few
+  pub whole : new ≡ old ++ rest
+
+-- the disk has no room
+abbrev pub IsNoRoom : SegmentError → Type 0
+IsNoRoom (NoRoom why) = Unit {0}
+IsNoRoom other = ⊥
 
 -- Between two places lies a block of this content, and its digest is that of the content under the one before.
 pub record Bears (place : Place) (content : List ℕ) (next : Place) : Type 0 where

@@ -34,7 +34,8 @@ pub trait BatchJournal {
         ensures leaves { (base : Base) (files : List (List ℕ)) → leaves self.new base files → leaves self.old base files }
         ensures clean { is_clean self.new ≡ is_clean self.old };
 
-    /// Writes all staged records as one batch, and syncs it. After an error nothing more is written.
+    /// Writes all staged records as one batch, and syncs it. After an error nothing more is written, but for NoRoom and want
+    /// of memory.
     fn commit(&mut self) -> Result<(), JournalError>
         ensures ok { OnOk result ((base : Base) (entries waiting : List Entry) → has self.old base entries waiting → has self.new base (entries ++ waiting) []) }
 
@@ -152,6 +153,7 @@ fn reason_of(error: SegmentError) -> JournalError {
         SegmentError::Device(error) => JournalError::Device(error),
         SegmentError::Memory => JournalError::Memory,
         SegmentError::Full => JournalError::Full,
+        SegmentError::NoRoom(error) => JournalError::NoRoom(error),
         SegmentError::Spent | SegmentError::Unsettled => JournalError::Spent,
         SegmentError::NotASegment
         | SegmentError::NotBegun

@@ -25,6 +25,9 @@ pub enum JournalError {
     /// A tenant was renewed before all steps of its trail were recorded.
     #[error("a tenant was renewed before its steps were recorded")]
     Unrecorded,
+    /// The disk has no room for a batch, and the journal is as it was.
+    #[error("{0}")]
+    NoRoom(io::Error),
     /// There is no room in the buffer, or the file has its greatest length.
     #[error("there is no room in it")]
     Full,

@@ -116,6 +116,7 @@ fn is_of_another(why: &SegmentError) -> bool {
         SegmentError::Device(_)
         | SegmentError::Memory
         | SegmentError::Full
+        | SegmentError::NoRoom(_)
         | SegmentError::Spent
         | SegmentError::Unsettled => false,
     }

@@ -54,7 +54,7 @@ pub use journal_fault::JournalFault;
 pub use journal_header::Head;
 pub use journaled_run::{JournaledRun, run_journaled};
 pub use log_header::{BeginError, begin, open_journal};
-pub use log_lines::{tell_no_journal, tell_not_recorded};
+pub use log_lines::{tell_no_journal, tell_no_room, tell_not_recorded, tell_room};
 pub use playing::syncing_of;
 pub use record::{Record, first_record};
 pub use record_log::RecordLog;

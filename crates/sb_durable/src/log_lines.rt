@@ -21,6 +21,22 @@ pub fn tell_not_recorded<O: Log, D: Display>(log: &O, why: &D) {
     log.write(Severity::Error, &format_args!("journal: {why}"));
 }
 
+/// Logs that the disk has no room for records.
+pub fn tell_no_room<O: Log, D: Display>(log: &O, why: &D) {
+    log.write(
+        Severity::Error,
+        &format_args!("journal: no room: {why}: replies wait until there is some"),
+    );
+}
+
+/// Logs that the disk has room for records again.
+pub fn tell_room<O: Log>(log: &O) {
+    log.write(
+        Severity::Info,
+        &format_args!("journal: there is room again"),
+    );
+}
+
 /// Logs that records go to the segment with this number from then on.
 pub(crate) fn tell_turned<O: Log>(log: &O, number: u64) {
     log.write(

@@ -134,7 +134,8 @@ impl<D: Disk> RowJournal<D> {
         Ok(())
     }
 
-    /// Writes all staged records as one batch to the newest segment, and syncs it. After an error nothing more is written.
+    /// Writes all staged records as one batch to the newest segment, and syncs it. After an error nothing more is written,
+    /// but for NoRoom and want of memory.
     pub fn commit(&mut self) -> Result<(), SegmentError>
         ensures ok { OnOk result ((head : TheHead) (older : List Filed) (entries waiting : List Entry) → HasRow D.Disk.seen D.Disk.may_leave self.old head older entries waiting
             → HasRow D.Disk.seen D.Disk.may_leave self.new head older (entries ++ waiting) []) }

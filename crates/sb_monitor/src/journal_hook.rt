@@ -1,10 +1,12 @@
 //! A server's journal: what is answered is recorded before it is sent, and synced.
-ghost use Rattle.std.specs.Prelude.{true};
+ghost use Rattle.std.specs.Prelude.{◌≢◌, true};
 ghost use Rattle.sb_durable.specs.RecordedTrails.{AreKept};
 
 use crate::event_log::EventLog;
 use crate::housekeeping::Chore;
-use sb_durable::{BatchJournal, Flusher, JournalError, Recorder, tell_not_recorded};
+use sb_durable::{
+    BatchJournal, Flusher, JournalError, Recorder, tell_no_room, tell_not_recorded, tell_room,
+};
 use sb_host::Lending;
 use sb_server::{CommitHook, CommitStatus};
 use sb_words::Log;
@@ -19,6 +21,8 @@ pub struct JournalHook<'k, R, T> {
     log: &'k EventLog<'k, T>,
     /// The last commit lacked memory.
     lacks_memory: AtomicBool,
+    /// The last commit lacked room on the disk.
+    lacks_room: AtomicBool,
     has_failed: AtomicBool,
     /// Syncs what is written, if commits don't.
     flusher: Option<&'k Flusher<'k, EventLog<'k, T>>>,
@@ -35,6 +39,7 @@ impl<'k, R, T: Eprint + Clock> JournalHook<'k, R, T> {
             recorder,
             log,
             lacks_memory: AtomicBool::new(false),
+            lacks_room: AtomicBool::new(false),
             has_failed: AtomicBool::new(false),
             flusher,
         }
@@ -52,14 +57,31 @@ impl<'k, R, T: Eprint + Clock> JournalHook<'k, R, T> {
         }
     }
 
-    /// Logs why nothing was recorded. A lack of memory is logged again after a success, any other reason once.
+    /// Logs why nothing was recorded. A lack of memory or of room is logged again after a success, any other reason once.
     fn tell(&self, error: &JournalError) {
-        let was_told = match error {
-            JournalError::Memory => self.lacks_memory.swap(true, Ordering::SeqCst),
-            _ => self.has_failed.swap(true, Ordering::SeqCst),
-        };
-        if !was_told {
+        match error {
+            JournalError::NoRoom(why) => {
+                if !self.lacks_room.swap(true, Ordering::SeqCst) {
+                    tell_no_room(self.log, why);
+                }
+            }
+            JournalError::Memory => self.tell_once(&self.lacks_memory, error),
+            _ => self.tell_once(&self.has_failed, error),
+        }
+    }
+
+    /// Logs why nothing was recorded, if that wasn't told.
+    fn tell_once(&self, was_told: &AtomicBool, error: &JournalError) {
+        if !was_told.swap(true, Ordering::SeqCst) {
             tell_not_recorded(self.log, error);
+        }
+    }
+
+    /// Notes that a commit lacked neither memory nor room.
+    fn note_kept(&self) {
+        self.lacks_memory.store(false, Ordering::SeqCst);
+        if self.lacks_room.swap(false, Ordering::SeqCst) {
+            tell_room(self.log);
         }
     }
 }
@@ -77,18 +99,24 @@ impl<'k, H: Lending, B: BatchJournal, T: Eprint + Clock> CommitHook
     fn keep<W: Wait>(&self, rt: &W, tenants: &[u32]) -> CommitStatus {
         match self.recorder.keep(rt, tenants) {
             Ok(()) => {
-                self.lacks_memory.store(false, Ordering::SeqCst);
+                self.note_kept();
                 self.written()
-            }
-            Err(JournalError::Memory) => {
-                self.tell(&JournalError::Memory);
-                CommitStatus::NotYet
             }
             Err(error) => {
                 self.tell(&error);
-                CommitStatus::Failed
+                status_of(&error)
             }
         }
+    }
+}
+
+/// How a commit ended that failed: want of memory and of room may pass.
+fn status_of(error: &JournalError) -> CommitStatus
+    ensures { result ≢ CommitStatus.All }
+{
+    match error {
+        JournalError::Memory | JournalError::NoRoom(_) => CommitStatus::NotYet,
+        _ => CommitStatus::Failed,
     }
 }
 

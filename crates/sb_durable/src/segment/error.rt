@@ -37,6 +37,9 @@ pub enum SegmentError {
     /// No file gets so long.
     #[error("there is no room in it")]
     Full,
+    /// The disk has no room for a write. What was written of it was taken back, and the next one may have room.
+    #[error("{0}")]
+    NoRoom(io::Error),
 }
 
 impl From<io::Error> for SegmentError {

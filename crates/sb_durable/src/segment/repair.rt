@@ -1,12 +1,14 @@
 //! The end of a file, where a crash may have left a part of a block: it is cut off.
-ghost use Rattle.std.specs.Prelude.{◌≡◌, ◌+◌, ◌-◌, ◌<◌, ◌≤◌, List, ℕ, slice_index, OnOk, IsTrue};
-ghost use Rattle.sqlite_disk.specs.Disk.{Only};
+ghost use Rattle.std.specs.Prelude.{◌≡◌, ◌+◌, ◌-◌, ◌<◌, ◌≢◌, ◌≤◌, List, ℕ, length, slice_index, IfErr, OnOk, IsTrue};
+ghost use Rattle.sqlite_disk.specs.Disk.{Follows, Holds, Only, Torn};
 ghost use Rattle.sb_durable.specs.Head.{Head, IsLeft, Stands};
-ghost use Rattle.sb_durable.specs.Segment.{IsAtRest};
+ghost use Rattle.sb_durable.specs.Segment.{Extends, IsAtRest, IsNoRoom};
 ghost use Rattle.sb_durable.specs.SegmentEnds.{EndsAt};
 
+use crate::segment::SegmentError;
 use sqlite_disk::Disk;
 use std::io;
+use std::io::ErrorKind;
 
 /// Leaves the gate at `end`, shut, and nothing behind it.
 pub(crate) fn leave_gate<D: Disk>(disk: &mut D, end: usize, len: usize) -> io::Result<()>
@@ -51,4 +53,41 @@ fn shut_gate<D: Disk>(disk: &mut D, end: usize) -> io::Result<()>
     }
     disk.write_at(end, &[0])?;
     disk.sync()
+}
+
+/// Writes bytes at the end of a file. Error: NoRoom, if the disk has no room for them and nothing of them is left; the
+/// device's.
+pub(crate) fn write_end<D: Disk>(disk: &mut D, end: usize, bytes: &[u8]) -> Result<(), SegmentError>
+    requires { IsTrue (D.Disk.is_usable disk.old) }
+    ensures others { OnOk result (Torn end (length bytes.now) (D.Disk.seen disk.old) (D.Disk.seen disk.new)) }
+    ensures written { OnOk result (0 < length bytes.now → Holds (D.Disk.seen disk.new) end bytes.now) }
+    ensures crash { OnOk result (Follows (Torn end (length bytes.now)) (D.Disk.may_leave disk.old) (D.Disk.may_leave disk.new)) }
+    ensures usable { OnOk result (IsTrue (D.Disk.is_usable disk.new)) }
+
+    // A crash at any moment leaves some bytes behind the end.
+    ensures any_moment { end ≡ length (D.Disk.seen disk.old) → Only (D.Disk.seen disk.old) (D.Disk.may_leave disk.old)
+        → (file : List ℕ) → D.Disk.may_leave disk.new file → Extends (length bytes.now) (D.Disk.seen disk.old) file }
+    ensures same { IfErr result (λ e. IsNoRoom e → end ≡ length (D.Disk.seen disk.old) → Only (D.Disk.seen disk.old) (D.Disk.may_leave disk.old)
+        → (D.Disk.seen disk.new ≡ D.Disk.seen disk.old) × Only (D.Disk.seen disk.old) (D.Disk.may_leave disk.new)) }
+    ensures kind { IfErr result (λ e. (e ≢ SegmentError.Unsettled) × (e ≢ SegmentError.Full)) }
+    ensures clean { IsTrue (D.Disk.is_clean disk.new) → IsTrue (D.Disk.is_clean disk.old) }
+{
+    let error = match disk.write_at(end, bytes) {
+        Ok(()) => return Ok(()),
+        Err(error) => error,
+    };
+    if !lacks_room(&error) {
+        return Err(SegmentError::Device(error));
+    }
+    disk.set_len(end)?;
+    disk.sync()?;
+    Err(SegmentError::NoRoom(error))
+}
+
+/// True if a disk or a user has no more room.
+fn lacks_room(error: &io::Error) -> bool {
+    matches!(
+        error.kind(),
+        ErrorKind::StorageFull | ErrorKind::QuotaExceeded | ErrorKind::FileTooLarge
+    )
 }

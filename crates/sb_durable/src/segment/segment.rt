@@ -9,7 +9,7 @@ ghost use Rattle.sb_durable.specs.Segment.{HasAll, Knows, IsSettled, IsSpent, de
 
 use crate::segment::beginning::Beginning;
 use crate::segment::bytes::behind_gate;
-use crate::segment::repair::leave_gate;
+use crate::segment::repair::{leave_gate, write_end};
 use crate::segment::{Place, SegmentError};
 use sqlite_disk::{Disk, digest_of};
 use std::alloc::Global;
@@ -32,8 +32,8 @@ pub struct Segment<D: Disk> {
 }
 
 impl<D: Disk> Segment<D> {
-    /// Adds a content. At `Ok` each crash leaves a file that has it. Error: the device's, Memory, Full, or Spent behind
-    /// a write that failed.
+    /// Adds a content. At `Ok` each crash leaves a file that has it. Error: NoRoom, if the disk has none, the device's,
+    /// Memory, Full, or Spent behind a write that failed.
     pub fn append(&mut self, alloc: Global, content: &[u8]) -> Result<(), SegmentError>
         requires { IsContent content.now }
         ensures ok { OnOk result ((contents : List (List ℕ)) → HasAll D.Disk.seen D.Disk.may_leave self.old contents
@@ -53,8 +53,9 @@ impl<D: Disk> Segment<D> {
 
         ensures clean { IsTrue (D.Disk.is_clean (device_of self.new)) → IsTrue (D.Disk.is_clean (device_of self.old)) }
 
-        // Nothing was done, or the segment isn't used any more.
-        ensures err { OnErr result ((self.new ≡ self.old) ⊎ IsSpent self.new) }
+        // It has what it had, or the segment isn't used any more.
+        ensures err { OnErr result (((contents : List (List ℕ)) → HasAll D.Disk.seen D.Disk.may_leave self.old contents
+            → HasAll D.Disk.seen D.Disk.may_leave self.new contents) ⊎ IsSpent self.new) }
         ensures spent { IsSpent self.old → IsErr result }
         ensures unsettled { IfErr result (λ e. e ≡ SegmentError.Unsettled → IsSettled self.old → ⊥) }
         ensures full { IfErr result (λ e. e ≡ SegmentError.Full → 2 ^ 62 ≤ (end_of self.old).at) }
@@ -71,7 +72,14 @@ impl<D: Disk> Segment<D> {
         let own = digest_of(self.end.chain, content);
         let behind = behind_gate(alloc, own, content)?;
         self.is_spent = true;
-        self.device.write_at(self.end.at + 1, &behind)?;
+        match write_end(&mut self.device, self.end.at + 1, &behind) {
+            Ok(()) => {}
+            Err(SegmentError::NoRoom(why)) => {
+                self.is_spent = false;
+                return Err(SegmentError::NoRoom(why));
+            }
+            Err(error) => return Err(error),
+        }
         self.device.sync()?;
         self.device.write_at(self.end.at, &[OPEN])?;
         self.device.sync()?;
