@@ -16,13 +16,15 @@ turn (refuse_disk.c), with --sync always and second: the server ends with a faul
 second there is a sync each second under load and one behind the last line, none of it while nothing comes, and one that
 fails ends the server before its next reply to a commit; a run makes one before it ends. Of a run's file no more is cut off
 than a crash leaves. A transaction of four lines waits for two syncs, those of its commit. While a tenant is dumped, those
-of other cells commit. Then what can't be: two servers on one folder, another number of tenants, another bound, a full disk,
-and what is no folder of segments, which stays as it is. The first thing that isn't as it is to be ends this with status 1.
+of other cells commit. On a full disk replies that have to wait do until there is room. Then what can't be: two servers on
+one folder, another number of tenants, another bound, and what is no folder of segments, which stays as it is. The first
+thing that isn't as it is to be ends this with status 1.
 """
 
 import argparse
 import os
 import random
+import resource
 import shutil
 import subprocess
 import tempfile
@@ -634,16 +636,25 @@ def cannot_be(program, room):
 
 
 def full_disk(program, room):
+    """Where a disk is full, replies that have to wait do, and the server goes on when there is room again. Returns how many lines
+    were answered before."""
     file = os.path.join(room, "full")
     server = journaled(program, file, limit=4000)
-    client = Client(server, 0, 0, ["create table t (a int, b text)"] + ["begin", f"insert into t values (1, '{'x' * 200}')", "commit"] * 30)
+    made = ["create table t (a int, b text)"] + ["begin", f"insert into t values (1, '{'x' * 200}')", "commit"] * 30
+    client = Client(server, 0, 0, made)
     client.start()
+    server.wait_for("journal: no room: ")
+    time.sleep(0.5)
+    answered = client.answers
+    need(client.is_alive() and os.path.getsize(newest(file)) <= 4000, f"a full disk: {answered} answers, {server.told()}")
+    resource.prlimit(server.process.pid, resource.RLIMIT_FSIZE, (resource.RLIM_INFINITY, resource.RLIM_INFINITY))
     client.join()
-    told, log = fault((lambda ended: (ended[0], "", ended[2]))(server.end()))
-    need(told == "fault: journal failed" and log, f"a full disk: {told}, {log}")
+    status, _, log = server.end()
+    need(status == 0 and len(client.answered) == len(made) + 1, f"room again: {status}, {len(client.answered)} answers, {log}")
+    need([log.count(f"journal: {told}") for told in ("no room: ", "there is room again")] == [1, 1], f"a full disk is told once: {log}")
     found = are_records(file, [client])
     need(states(program, file, room) == states_of(program, found, room), "a full disk: another state behind it")
-    return len(client.answered)
+    return answered
 
 
 def main():
@@ -681,7 +692,7 @@ def main():
         waited, took = max(dumps_keep_nobody(program, room))
         print(f"while a tenant is dumped for {took:.1f} s, others wait for {waited:.2f} s at most")
         print(f"--tenant-memory 1: a greedy tenant's part of the journal is {share_bounds_file(program, room)} bytes over three starts")
-        print(f"a full disk ends the server behind {full_disk(program, room)} answers, and they are there")
+        print(f"a full disk behind {full_disk(program, room)} answers: the next one waits until there is room, and all is there")
 
 
 if __name__ == "__main__":
