@@ -1,5 +1,6 @@
 -- Journals in the files of a folder.
-use Rattle.std.proofs.Common.{◌≡◌, ◌⊎◌, ℕ, List, [], ◌∷◌, ◌++◌, length, drop, refl, sym, ap, ◌∙◌, inl, inr, arith, append_assoc, append-nil, subst}
+use Rattle.std.proofs.Common.{◌≡◌, ◌⊎◌, ℕ, Result, Ok, Err, List, [], ◌∷◌, ◌++◌, length, drop, refl, sym, ap, ◌∙◌, inl, inr, arith, append_assoc, append-nil, subst}
+use Rattle.std.specs.Prelude.{OnErr}
 use Rattle.sb_durable.specs.Head.{Head as SegmentHead, IsUnbegun, IsLeft}
 use Rattle.sb_durable.specs.Journal.{contents_of, all_of}
 use Rattle.sb_durable.specs.Records.{Entry as Record, bytes_of}
@@ -123,6 +124,11 @@ module _ (settings : List ℕ) (older : List Filed) (own next : SegmentHead) (co
 -- the same segment with another file
 same_filed : {D : Type 0} (a b : Segment D) (contents : List (List ℕ)) → head_of b ≡ head_of a → filed a contents ≡ filed b contents
 same_filed a b contents same = ap (λ (h : SegmentHead). record { head = h; contents = contents }) (sym same)
+
+pub still_or : {A B C T E : Type 0} (result : Result T E) → (A → B) → A ⊎ C → OnErr result (B ⊎ C)
+still_or (Ok value) still either = tt
+still_or (Err error) still (inl holds) = inl (still holds)
+still_or (Err error) still (inr other) = inr other
 
 -- where its newest segment has what it had
 pub row_still : {D : Type 0} {g : Ghosts D} (seen : D → List ℕ) (may_leave : D → List ℕ → Type 0) (old new : RowJournal D g) (head : Head) (older : List Filed) (entries waiting : List Record)

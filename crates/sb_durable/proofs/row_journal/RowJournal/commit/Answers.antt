@@ -1,4 +1,4 @@
-use Rattle.std.proofs.Common.{◌≡◌, ◌++◌, ◌∷◌, [], List, ap, refl, sym, ◌∙◌, rules, inl, inr}
+use Rattle.std.proofs.Common.{◌≡◌, ◌++◌, ◌∷◌, [], List, ap, refl, sym, ◌∙◌, rules, inl}
 use Rattle.std.proofs.lemmas.List.{append-nil, nil_from_length}
 use Rattle.sb_durable.specs.Records.{Entry}
 use Rattle.sb_durable.specs.RowJournal.{settings_of}
@@ -6,7 +6,7 @@ use Rattle.sb_durable.specs.RowReaders.{filed}
 use Rattle.sb_durable.specs.Segment.{head_of}
 use Rattle.sb_durable.proofs.Batches.{none_waits, all_more}
 use Rattle.sb_durable.proofs.Rows.{only_the_newest_is_written}
-use Rattle.sb_durable.proofs.RowJournals.{keep_more, more_contents, row_after, row_still, settings_after, contents_after}
+use Rattle.sb_durable.proofs.RowJournals.{keep_more, more_contents, row_after, row_still, still_or, settings_after, contents_after}
 use Rattle.sb_durable.proofs.SegmentCrash.{left_now}
 use Rattle.sb_durable.proofs.row_journal.RowJournal.commit.Goals as goal
 
@@ -23,10 +23,8 @@ returns-then-is_empty-clause-any_moment g c head older entries waiting has files
     (only_the_newest_is_written (settings_of head) older (filed c.args.self.now.newest has.contents) files has.row has.settings are _ file (inl (left_now _ _ _ has.contents has.newest file left)))
 
 pub returns-in_err-append-clause-err : goal.returns-in_err-append-clause-err
-returns-in_err-append-clause-err g c = elim c.in_err-append.ensures.err [
-  | inl keeps ↦ inl (λ head older entries waiting has. row_still _ _ _ _ head older entries waiting has keeps c.append.ensures.head refl)
-  | inr spent ↦ inr spent
-]
+returns-in_err-append-clause-err g c =
+    still_or c.from_residual.result (λ keeps head older entries waiting has. row_still _ _ _ _ head older entries waiting has keeps c.append.ensures.head refl) c.in_err-append.ensures.err
 
 pub returns-in_err-append-clause-any_moment : goal.returns-in_err-append-clause-any_moment
 returns-in_err-append-clause-any_moment g c head older entries waiting has files are file left =

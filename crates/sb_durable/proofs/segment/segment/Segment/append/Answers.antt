@@ -1,4 +1,5 @@
-use Rattle.std.proofs.Common.{◌≡◌, List, ℕ, inl, ap, arith, refl, subst, ◌∙◌, get_or}
+use Rattle.std.proofs.Common.{◌≡◌, List, ℕ, inl, ap, arith, refl, sym, subst, ◌∙◌, get_or}
+use Rattle.sb_durable.specs.Segment.{IsNoRoom}
 use Rattle.sb_durable.proofs.SegmentCrash.{end_is, has_more, has_still, left_behind, left_gate, left_now, long}
 use Rattle.sb_durable.proofs.segment.segment.Segment.append.Goals as goal
 
@@ -20,7 +21,7 @@ returns-in-Err-NoRoom-clause-any_moment g c contents has file left =
 
 pub returns-in-Err-NoRoom-clause-err : goal.returns-in-Err-NoRoom-clause-err
 returns-in-Err-NoRoom-clause-err g c = inl λ contents has.
-    let back = c.in-Err-NoRoom.ensures.same tt (end_is _ _ _ contents has) has.durable in
+    let back = c.in-Err-NoRoom.ensures.same (subst IsNoRoom (sym c.in-Err-NoRoom.field-0-is) tt) (end_is _ _ _ contents has) has.durable in
     has_still _ _ _ contents has _ back.0 back.1
 
 pub returns-in-Err-clause-any_moment : goal.returns-in-Err-clause-any_moment
