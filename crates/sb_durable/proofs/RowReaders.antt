@@ -6,7 +6,7 @@ use Rattle.sb_durable.specs.RowFaults.{IsRefused}
 use Rattle.sb_durable.specs.RowReaders.{HasRead, BindsRow, filed}
 use Rattle.sb_durable.specs.Segment.{IsBound, Knows, head_of}
 use Rattle.sb_durable.specs.declared.segment.error.SegmentError.{SegmentError}
-use Rattle.sb_durable.specs.declared.segment.error.SegmentError.TheVariants.{Device, Memory, NotASegment, NotBegun, CutShort, Begun, Damaged, Unsettled, Spent, Full}
+use Rattle.sb_durable.specs.declared.segment.error.SegmentError.TheVariants.{Device, Memory, NotASegment, NotBegun, CutShort, Begun, Damaged, Unsettled, Spent, Full, NoRoom}
 use Rattle.sb_durable.specs.declared.segment.reader.RowReader.{RowReader}
 use Rattle.sb_durable.proofs.Rows.{row_push, settings_push}
 
@@ -22,6 +22,7 @@ refused_of Damaged file foreign unbegun cut damaged = damaged refl
 refused_of Unsettled file foreign unbegun cut damaged = tt
 refused_of Spent file foreign unbegun cut damaged = tt
 refused_of Full file foreign unbegun cut damaged = tt
+refused_of (NoRoom why) file foreign unbegun cut damaged = tt
 
 module _ {D : Type 0} (seen : D → List ℕ) (reader : RowReader D) where
   pub read_first : (settings : List ℕ) (contents : List (List ℕ)) → Knows seen reader.last contents → (head_of reader.last).settings ≡ settings → HasRead seen reader settings [] contents

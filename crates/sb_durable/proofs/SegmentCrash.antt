@@ -1,6 +1,7 @@
 -- What a crash leaves while a content is added.
-use Rattle.std.proofs.Common.{◌≡◌, ◌≢◌, ℕ, false, ◌+◌, ◌<◌, ◌≤◌, ◌^◌, List, [], ◌∷◌, ◌++◌, length, get_or, refl, sym, ◌∙◌, ap, subst, arith, length-append, append_assoc, inl}
+use Rattle.std.proofs.Common.{◌≡◌, ◌≢◌, ◌⊎◌, Bool, true, not, inl, inr, ℕ, false, ◌+◌, ◌<◌, ◌≤◌, ◌^◌, List, [], ◌∷◌, ◌++◌, length, get_or, refl, sym, ◌∙◌, ap, subst, arith, length-append, append_assoc}
 use Rattle.std.specs.List.{AllByRecursion}
+use Rattle.std.proofs.lemmas.Bool.{false≢true}
 use Rattle.sqlite_disk.specs.Disk.{Holds, Torn, Follows, Only}
 use Rattle.sqlite_disk.specs.Digest.{digest}
 use Rattle.sb_durable.specs.SegmentBlocks.{body, block, IsContent}
@@ -10,6 +11,14 @@ use Rattle.sb_durable.specs.declared.segment.place.Place.{Place}
 use Rattle.sb_durable.specs.declared.segment.segment.Segment.{Segment}
 use Rattle.sb_durable.proofs.Torn.{torn_byte, written_behind}
 use Rattle.sb_durable.proofs.SegmentContents.{each-push, end-push, are-push, size-push, IsFront, front-push, length-front, stands_end, stands_shut, stands_gate}
+
+-- by a flag that says which
+pub kept_or_spent : {K : Type 0} (lacks : Bool) → (lacks ≡ true → K) → K ⊎ (not lacks ≡ true)
+kept_or_spent true kept = inl (kept refl)
+kept_or_spent false kept = inr refl
+
+pub not_spent : (lacks : Bool) → lacks ≡ true → not lacks ≡ true → ⊥
+not_spent lacks is spent = false≢true (ap not (sym is) ∙ spent)
 
 module _ {D : Type 0} (seen : D → List ℕ) (may_leave : D → List ℕ → Type 0) (segment : Segment D) (contents : List (List ℕ)) (has : HasAll seen may_leave segment contents) where
   each : AllByRecursion IsContent contents
@@ -48,9 +57,9 @@ module _ {D : Type 0} (seen : D → List ℕ) (may_leave : D → List ℕ → Ty
       shut_with extends.rest c (omega (arith, few, extends.small)) (extends.whole ∙ ap (λ (l : List ℕ). l ++ extends.rest) now ∙ append_assoc front (0 ∷ []) extends.rest)
 
   -- where nothing of the body is left
-  pub has_still : (new : D) → seen new ≡ seen segment.device → Only (seen segment.device) (may_leave new)
-      → HasAll seen may_leave (record { device = new; beginning = segment.beginning; end = segment.end; is_settled = segment.is_settled; is_spent = false }) contents
-  has_still new same only = record {
+  pub has_still : (new : D) (spent : Bool) → seen new ≡ seen segment.device → Only (seen segment.device) (may_leave new)
+      → HasAll seen may_leave (record { device = new; beginning = segment.beginning; end = segment.end; is_settled = segment.is_settled; is_spent = spent }) contents
+  has_still new spent same only = record {
     knows = record { stands = subst (λ (f : List ℕ). Stands (head_of segment) contents f) (sym same) has.knows.stands; own = has.knows.own; end = has.knows.end };
     file = subst (λ (f : List ℕ). IsAtRest (head_of segment) contents f) (sym same) has.file;
     durable = λ c left. only c left ∙ sym same;

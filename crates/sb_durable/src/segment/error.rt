@@ -42,6 +42,18 @@ pub enum SegmentError {
     NoRoom(io::Error),
 }
 
+impl SegmentError {
+    ghost use Rattle.std.specs.Prelude.{◌↔◌, IsTrue};
+    ghost use Rattle.sb_durable.specs.Segment.{IsNoRoom};
+
+    /// True if the disk has no room.
+    pub(crate) fn is_no_room(&self) -> bool
+        ensures { IsTrue result ↔ IsNoRoom self.now }
+    {
+        matches!(self, SegmentError::NoRoom(_))
+    }
+}
+
 impl From<io::Error> for SegmentError {
     ghost from_gives = { λ error e. e ≡ reason.Device error };
 

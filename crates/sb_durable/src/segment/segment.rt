@@ -5,7 +5,7 @@ ghost use Rattle.sqlite_disk.specs.Digest.{digest};
 ghost use Rattle.sqlite_disk.specs.Disk.{Only};
 ghost use Rattle.sb_durable.specs.SegmentBlocks.{IsContent, open_gate};
 ghost use Rattle.sb_durable.specs.Head.{IsBeforeOrAfter, IsLeft, Stands};
-ghost use Rattle.sb_durable.specs.Segment.{HasAll, Knows, IsSettled, IsSpent, device_of, head_of, end_of};
+ghost use Rattle.sb_durable.specs.Segment.{HasAll, Knows, IsNoRoom, IsSettled, IsSpent, device_of, head_of, end_of};
 
 use crate::segment::beginning::Beginning;
 use crate::segment::bytes::behind_gate;
@@ -56,6 +56,7 @@ impl<D: Disk> Segment<D> {
         // It has what it had, or the segment isn't used any more.
         ensures err { OnErr result (((contents : List (List ℕ)) → HasAll D.Disk.seen D.Disk.may_leave self.old contents
             → HasAll D.Disk.seen D.Disk.may_leave self.new contents) ⊎ IsSpent self.new) }
+        ensures room { IfErr result (λ e. IsNoRoom e → IsSpent self.new → ⊥) }
         ensures spent { IsSpent self.old → IsErr result }
         ensures unsettled { IfErr result (λ e. e ≡ SegmentError.Unsettled → IsSettled self.old → ⊥) }
         ensures full { IfErr result (λ e. e ≡ SegmentError.Full → 2 ^ 62 ≤ (end_of self.old).at) }
@@ -74,11 +75,10 @@ impl<D: Disk> Segment<D> {
         self.is_spent = true;
         match write_end(&mut self.device, self.end.at + 1, &behind) {
             Ok(()) => {}
-            Err(SegmentError::NoRoom(why)) => {
-                self.is_spent = false;
-                return Err(SegmentError::NoRoom(why));
+            Err(error) => {
+                self.is_spent = !error.is_no_room();
+                return Err(error);
             }
-            Err(error) => return Err(error),
         }
         self.device.sync()?;
         self.device.write_at(self.end.at, &[OPEN])?;

@@ -1,6 +1,5 @@
-use Rattle.std.proofs.Common.{◌≡◌, List, ℕ, inl, ap, arith, refl, sym, subst, ◌∙◌, get_or}
-use Rattle.sb_durable.specs.Segment.{IsNoRoom}
-use Rattle.sb_durable.proofs.SegmentCrash.{end_is, has_more, has_still, left_behind, left_gate, left_now, long}
+use Rattle.std.proofs.Common.{◌≡◌, List, ℕ, inl, ap, arith, refl, subst, ◌∙◌, get_or}
+use Rattle.sb_durable.proofs.SegmentCrash.{end_is, has_more, has_still, kept_or_spent, left_behind, left_gate, left_now, long, not_spent}
 use Rattle.sb_durable.proofs.segment.segment.Segment.append.Goals as goal
 
 -- before anything is written
@@ -14,20 +13,18 @@ pub returns-in_err-behind-clause-any_moment : goal.returns-in_err-behind-clause-
 returns-in_err-behind-clause-any_moment g c contents has file left = inl (left_now _ _ _ contents has file left)
 
 -- the body is written behind the shut gate, or what was written of it is taken back
-pub returns-in-Err-NoRoom-clause-any_moment : goal.returns-in-Err-NoRoom-clause-any_moment
-returns-in-Err-NoRoom-clause-any_moment g c contents has file left =
-    let size = long _ _ _ contents has _ _ _ c.requires c.digest_of-own.ensures.value (c.deref.ensures.value ∙ c.in_ok-behind.ensures) in
-    inl (left_behind _ _ _ contents has _ file (omega (arith, size, c.requires)) (c.write_end.ensures.any_moment (end_is _ _ _ contents has) has.durable file left))
-
-pub returns-in-Err-NoRoom-clause-err : goal.returns-in-Err-NoRoom-clause-err
-returns-in-Err-NoRoom-clause-err g c = inl λ contents has.
-    let back = c.in-Err-NoRoom.ensures.same (subst IsNoRoom (sym c.in-Err-NoRoom.field-0-is) tt) (end_is _ _ _ contents has) has.durable in
-    has_still _ _ _ contents has _ back.0 back.1
-
 pub returns-in-Err-clause-any_moment : goal.returns-in-Err-clause-any_moment
 returns-in-Err-clause-any_moment g c contents has file left =
     let size = long _ _ _ contents has _ _ _ c.requires c.digest_of-own.ensures.value (c.deref.ensures.value ∙ c.in_ok-behind.ensures) in
     inl (left_behind _ _ _ contents has _ file (omega (arith, size, c.requires)) (c.write_end.ensures.any_moment (end_is _ _ _ contents has) has.durable file left))
+
+pub returns-in-Err-clause-err : goal.returns-in-Err-clause-err
+returns-in-Err-clause-err g c = kept_or_spent c.is_no_room.result (λ is contents has.
+    let back = c.in-Err.ensures.same (c.is_no_room.ensures.0 is) (end_is _ _ _ contents has) has.durable in
+    has_still _ _ _ contents has _ _ back.0 back.1)
+
+pub returns-in-Err-clause-room : goal.returns-in-Err-clause-room
+returns-in-Err-clause-room g c room spent = not_spent c.is_no_room.result (c.is_no_room.ensures.1 room) spent
 
 pub returns-in_err-sync-clause-any_moment : goal.returns-in_err-sync-clause-any_moment
 returns-in_err-sync-clause-any_moment g c contents has file left =
