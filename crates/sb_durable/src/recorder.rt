@@ -69,7 +69,7 @@ impl<H: Lending, B: BatchJournal + Drop> Recorder<H, B> {
 impl<H: Lending, B: BatchJournal> Recorder<H, B> {
     /// Records all entries of these tenants' trails, and syncs the journal, which then goes on in a further file where its
     /// file is full. A tenant has to be recorded before it is renewed (else: Unrecorded, and nothing of it is written from
-    /// then on). After an error other than that and want of memory each further call fails and writes nothing.
+    /// then on). After an error other than that, want of memory and NoRoom each further call fails and writes nothing.
     pub fn keep<T: Wait>(&self, rt: &T, tenants: &[u32]) -> Result<(), JournalError>
         ensures { OnOk result (AreKept B.BatchJournal tenants.now) }
     {
