@@ -2,6 +2,8 @@ pub mod Seen
 pub mod SourceRows
 pub mod Meaning
 pub mod Cost
+pub mod Reach
+pub mod Work
 pub mod Scopes
 pub mod Size
 pub mod Correlation

@@ -24,6 +24,7 @@ mod ones;
 mod outward;
 mod partial_test;
 mod parts;
+mod reach;
 mod scope;
 mod sides;
 mod source_rows;
@@ -32,6 +33,7 @@ mod truth;
 mod value_ref;
 mod value_set;
 mod way;
+mod work;
 
 pub use batch::Batch;
 pub use calculation::is_free_of_arithmetic;
@@ -62,3 +64,6 @@ pub use truth::is_true;
 pub use value_ref::ValueRef;
 pub use value_set::ValueSet;
 pub use way::{AccessPath, choose_access_path};
+pub use work::{
+    query_work, repeated_operand_work, repeated_work, single_operand_work, single_work,
+};
