@@ -103,6 +103,7 @@ module _ (origin : List Held) (d : Database) (session : ℕ) (records : List Rec
       locks = r.locks;
       locked = r.locked;
       candidates = stay-candidates setting.rules f r.candidates;
+      left = r.left;
     }
 
 -- in order of creation they are the definition's candidates

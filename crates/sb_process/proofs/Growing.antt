@@ -231,4 +231,5 @@ with_change trig lives index d session records more clock later setting progress
       locked = locked_more progress.locks session c progress.changes r.locked (sym (r.locks session c.table Write) ∙ locked);
       candidates = candidates_grow trig lives index d.id session d.transactions kept set c setting.rules
           (candidates session, λ rule. flags rule ∙ ap (λ (w : Who). kind_triggers c.kind (triggers_of index w.tenant c.table rule) c) by) indexed origin progress made.stored made.proper within setting.rules (λ q e. e) r.candidates;
+      left = r.left;
     }

@@ -1,5 +1,5 @@
 -- What work leaves, one piece after another.
-use Rattle.std.proofs.Common.{◌≡◌, ◌∙◌, ℕ, ◌+◌, ◌≤◌, List, refl, sym, ap, subst, arith}
+use Rattle.std.proofs.Common.{◌≡◌, ◌∙◌, ℕ, ◌+◌, ◌≤◌, List, Option, refl, sym, ap, subst, arith}
 use Rattle.sb_tables.specs.Held.{Held, entries}
 use Rattle.sb_locks.specs.Held.{Holders}
 use Rattle.sb_rawlog.specs.Records.{Record}
@@ -73,12 +73,16 @@ leaves-locked h = record { id = h.id; sessions = h.sessions; others = h.others; 
 pub leaves-tables : (n : ℕ) {session : ℕ} {old new : Database} {a : List Record} {x : ℕ} → new ≡ record old { transactions = new.transactions } → OtherSessionsStay old.transactions new.transactions session → Leaves n old new session a a x x
 leaves-tables n {session} {old} {new} same sessions = leaves-same n (ap (λ (d : Database). d.id) same) (ap (λ (d : Database). d.tables) same) sessions
 
--- all but the locks, and times and candidates of the session
-pub leaves-marked : (n : ℕ) {session : ℕ} {old mid new : Database} {a : List Record} {x : ℕ} → mid ≡ record old { transactions = mid.transactions } → new ≡ record mid { locks = new.locks } →
+-- all but the locks, what is left of the budget, and times and candidates of the session
+pub leaves-marked : (n : ℕ) {session : ℕ} {old mid new : Database} {a : List Record} {x : ℕ} → mid ≡ record old { transactions = mid.transactions } → new ≡ record mid { locks = new.locks; left = new.left } →
     OtherSessionsStay old.transactions mid.transactions session → Leaves n old new session a a x x
 leaves-marked n {session} {old} {mid} {new} marked locked sessions =
     leaves-same n (ap (λ (d : Database). d.id) locked ∙ ap (λ (d : Database). d.id) marked) (ap (λ (d : Database). d.tables) locked ∙ ap (λ (d : Database). d.tables) marked)
     (subst (λ (k : Kept). OtherSessionsStay old.transactions k session) (sym (ap (λ (d : Database). d.transactions) locked)) sessions)
+
+-- what is left of a database is left of it with another budget
+pub leaves-charged : {n : ℕ} {session : ℕ} {old new : Database} (left : Option ℕ) {a b : List Record} {x y : ℕ} → Leaves n old new session a b x y → Leaves n old (record new { left = left }) session a b x y
+leaves-charged left h = record { id = h.id; sessions = h.sessions; others = h.others; times = h.times; numbers = h.numbers }
 
 -- ---- room
 

@@ -106,6 +106,7 @@ module _ (origin : List Held) (d : Database) (session : ℕ) (records : List Rec
     locks = r.locks;
     locked = r.locked;
     candidates = still setting.rules r.candidates;
+    left = r.left;
   }
     where
       past : (b : Bool) (x : ℕ) → cond b clock (mark_of d.transactions session x) ≤ clock

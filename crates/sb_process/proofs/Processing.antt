@@ -21,13 +21,13 @@ use Rattle.sb_process.specs.declared.consider.Consideration.{Consideration}
 use Rattle.sb_process.specs.declared.database.Database.{Database}
 use Rattle.sb_process.specs.Consider.{ran, rolled_back, refused, Considered, was_false, was_true, was_refused, consider}
 use Rattle.sb_process.specs.Process.{Processing, ended, after_verdict, process, stands_after}
-use Rattle.sb_catalog.specs.Definitions.{AreIndexed}
 use Rattle.sb_process.specs.Represents.{Represents, IsTakenBack}
-use Rattle.sb_process.specs.Running.{IsRunning, ComesTo, Goes, Notes, Finds, outcome_noted, verdict_noted, verdict_of, outcome_of, left_by, is_done}
+use Rattle.sb_process.specs.Running.{ComesTo, Goes, Notes, Finds, outcome_noted, verdict_noted, verdict_of, outcome_of, left_by, is_done}
 use Rattle.sb_process.specs.Setting.{Setting, Progress, is_candidate, next_rule}
 use Rattle.sb_process.specs.Transactions.{OtherSessionsStay}
 use Rattle.sb_process.specs.Work.{CanRun, CanRunRule, IsConditionThere, IsWork, Stands, Processes}
 use Rattle.sb_process.proofs.Leaving.{sessions-on}
+use Rattle.sb_process.proofs.Works.{work-with}
 use Rattle.sb_process.proofs.Running.{there-same, actions-there, same-numbers, comes-on}
 
 -- ---- a verdict
@@ -182,18 +182,18 @@ if-ok P r x e h = subst (λ s. IfOk s P) e h
 module _ {origin : List Held} {start now : Database} {session : ℕ} {records later : List Record} {clock time : ℕ} {index : List (List TableSets)} {catalog : List Rule} {order : Ranks} {setting : Setting} {progress : Progress} {eligible : ℕ → Bool} {all left : ℕ} {old mid : List (ℕ × Verdict)}
     (w : IsWork origin start session records clock index catalog order setting progress) (r : Reaches (λ q. ComesTo origin now session later time setting progress q) setting eligible progress all left old mid) (same : now.id ≡ start.id) where
   pub at-work : IsWork origin now session later time index catalog order setting r.after
-  at-work = record { transaction = r.comes_to.stands; rules = w.rules; indexed = subst (λ (id : ℕ). AreIndexed index id catalog) (sym same) w.indexed; ordered = w.ordered }
+  at-work = work-with w r.comes_to.stands (sym same)
 
   -- the next rule is looked for, which changes neither tables nor locks
   module _ {seen : Database} (on : IsWork origin now session later time index catalog order setting r.after → IsWork origin seen session later time index catalog order setting r.after) where
     pub looked-on : ComesTo origin seen session later time setting progress r.after
     looked-on = record { stands = (on at-work).transaction; locks = r.comes_to.locks }
 
-    pub runs-on : IsRunning origin seen session later time index setting r.after
-    runs-on = let v = on at-work in record { transaction = v.transaction; indexed = subst (AreIndexed index seen.id) (sym v.rules) v.indexed }
+    pub runs-on : IsWork origin seen session later time index catalog order setting r.after
+    runs-on = on at-work
 
     -- the transaction goes on with what the rule comes to
-    pub considered-on : {new : Database} {last : List Record} {end : ℕ} → (IsRunning origin seen session later time index setting r.after → (after : Progress) × ComesTo origin new session last end setting r.after after) →
+    pub considered-on : {new : Database} {last : List Record} {end : ℕ} → (IsWork origin seen session later time index catalog order setting r.after → (after : Progress) × ComesTo origin new session last end setting r.after after) →
         (after : Progress) × ComesTo origin new session last end setting progress after
     considered-on {new} {last} {end} goes =
         let come = goes runs-on in
@@ -219,7 +219,7 @@ module _ {origin : List Held} {start now : Database} {session : ℕ} {records la
 
         -- the rule is considered and noted
         module _ {new : Database} {last : List Record} {end : ℕ} {verdicts : List (ℕ × Verdict)} {result : Result (Option Outcome) AllocError}
-            (noted : IsRunning origin seen session later time index setting r.after → IfOk result (λ o. Notes (λ q. ComesTo origin new session last end setting r.after q) rule.id r.after (consider setting rule r.after) mid verdicts o)) (n : ℕ) (more : left ≡ suc n) where
+            (noted : IsWork origin seen session later time index catalog order setting r.after → IfOk result (λ o. Notes (λ q. ComesTo origin new session last end setting r.after q) rule.id r.after (consider setting rule r.after) mid verdicts o)) (n : ℕ) (more : left ≡ suc n) where
           notes : (ending : Option Outcome) → result ≡ Ok ending → Notes (λ q. ComesTo origin new session last end setting r.after q) rule.id r.after (consider setting rule r.after) mid verdicts ending
           notes ending is = if-ok (λ (o : Option Outcome). Notes (λ q. ComesTo origin new session last end setting r.after q) rule.id r.after (consider setting rule r.after) mid verdicts o) result ending is (noted runs-on)
 

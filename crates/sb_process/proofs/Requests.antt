@@ -85,6 +85,11 @@ same_candidates : (kept : Kept) (session : ℕ) (p : Progress) (more : Locks) (r
 same_candidates kept session p more [] h = tt
 same_candidates kept session p more (rule ∷ rules) h = (h.0, same_candidates kept session p more rules h.1)
 
+-- nor with the budget
+same_left : (kept : Kept) (session : ℕ) (p : Progress) (left : Option ℕ) (rules : List Rule) → AreCandidates kept session p rules → AreCandidates kept session (record p { left = left }) rules
+same_left kept session p left [] h = tt
+same_left kept session p left (rule ∷ rules) h = (h.0, same_left kept session p left rules h.1)
+
 module _ {origin : List Held} {d : Database} {session : ℕ} {records : List Record} {clock : ℕ} {setting : Setting} {progress : Progress} (r : Represents origin d session records clock setting progress) where
   -- the tables in memory are those that are seen
   pub seen_tables : entries d.tables ≡ tables_seen setting progress
@@ -127,6 +132,24 @@ module _ {origin : List Held} {d : Database} {session : ℕ} {records : List Rec
     locks = are_held;
     locked = are_locked;
     candidates = are_candidates;
+    left = r.left;
+  }
+
+  -- with so much left of the budget
+  pub with_left : (left : Option ℕ) → Represents origin (record d { left = left }) session records clock setting (record progress { left = left })
+  with_left left = record {
+    who = r.who;
+    changes = r.changes;
+    past = r.past;
+    tested = r.tested;
+    untriggered = r.untriggered;
+    marks = r.marks;
+    base = r.base;
+    made = r.made;
+    locks = r.locks;
+    locked = r.locked;
+    candidates = same_left d.transactions session progress left setting.rules r.candidates;
+    left = refl;
   }
 
   -- with more locks

@@ -14,17 +14,17 @@ use Rattle.sb_check.specs.declared.tree.Action.{Action}
 use Rattle.sb_check.specs.declared.tree.Action.TheVariants as action
 use Rattle.sb_catalog.specs.declared.rule.Rule.{Rule}
 use Rattle.sb_tables.specs.Held.{Held, has_number}
-use Rattle.sb_eval.specs.Statement.{statement_locks, statement_changes}
+use Rattle.sb_eval.specs.Statement.{statement_locks}
 use Rattle.sb_rawlog.specs.Records.{Record}
 use Rattle.sb_process.specs.declared.database.Database.{Database}
 use Rattle.sb_process.specs.declared.consider.Consideration.{Consideration}
 use Rattle.sb_process.specs.declared.consider.Consideration.TheVariants.{False}
-use Rattle.sb_process.specs.Consider.{Ending, ran, rolled_back, refused, Considered, was_false, was_true, was_refused, with_changes, run_statement, run_actions, test_rows, test_condition, consider}
+use Rattle.sb_process.specs.Consider.{Ending, ran, rolled_back, refused, Considered, was_false, was_true, was_refused, with_effect, run_statement, statement_effect, run_actions, test_rows, test_condition, consider}
 use Rattle.sb_process.specs.Represents.{Represents}
 use Rattle.sb_process.specs.Request.{AreThere, IsAnswer, after_request}
 use Rattle.sb_process.specs.Running.{ComesTo, Tests, Acts, Ends, Goes, truth}
-use Rattle.sb_process.specs.Setting.{Setting, Progress, marked, rule_tables, seen_with}
-use Rattle.sb_process.specs.Statement.{changes_meant, with_changes_of, after_statement, counted, Runs}
+use Rattle.sb_process.specs.Setting.{Setting, Progress, marked, rule_tables}
+use Rattle.sb_process.specs.Statement.{effect_meant, with_effect_of, after_statement, counted, Runs}
 use Rattle.sb_process.specs.Work.{AreActionsThere}
 use Rattle.sb_process.proofs.Requests.{same_session}
 use Rattle.sb_process.proofs.Sharing.{there}
@@ -48,7 +48,7 @@ released-after setting progress list session same s t m = by (first_conflict pro
     by (Some x) = refl
     by None = released-with progress.locks setting.who.session session list same s t m
 
-same-locks : (meant : Result (List Change) Refusal) (p : Progress) → (with_changes_of meant p).locks ≡ p.locks
+same-locks : (meant : Result (List Change × Option ℕ) Refusal) (p : Progress) → (with_effect_of meant p).locks ≡ p.locks
 same-locks (Ok changes) p = refl
 same-locks (Err refusal) p = refl
 
@@ -81,7 +81,7 @@ module _ (origin : List Held) (session : ℕ) (setting : Setting) (progress : Pr
         ComesTo origin new session later time setting progress (after_statement setting tables statement progress)
     comes-statement tables statement n = record {
       stands = n;
-      locks = λ s t m. ap (λ (l : Locks). released l session s t m) (same-locks (changes_meant setting tables statement progress) (after_request setting (statement_locks statement) progress))
+      locks = λ s t m. ap (λ (l : Locks). released l session s t m) (same-locks (effect_meant setting tables statement progress) (after_request setting (statement_locks statement) progress))
           ∙ released-after setting progress (statement_locks statement) session (same_session r) s t m;
     }
 
@@ -104,6 +104,13 @@ pub comes-on : (origin : List Held) (session : ℕ) (setting : Setting) (progres
     ComesTo origin mid session earlier then setting progress p → ComesTo origin new session later time setting p q → ComesTo origin new session later time setting progress q
 comes-on origin session setting progress p q mid new earlier later then time a b = record { stands = b.stands; locks = λ s t m. b.locks s t m ∙ a.locks s t m }
 
+-- with the same locks in memory and so much left of the budget
+pub comes-charged : (origin : List Held) (session : ℕ) (setting : Setting) (progress p : Progress) (mid : Database) (left : Option ℕ) (records : List Record) (clock : ℕ) → ComesTo origin mid session records clock setting progress p →
+    (q : Progress) → Represents origin (record mid { left = left }) session records clock setting q → ComesTo origin (record mid { left = left }) session records clock setting progress q
+comes-charged origin session setting progress p mid left records clock come q r =
+    let same : q.locks ≡ p.locks = λ i s t m. (sym (r.locks s t m) ∙ come.stands.locks s t m) i in
+    record { stands = r; locks = λ s t m. ap (λ (l : Locks). released l session s t m) same ∙ come.locks s t m }
+
 -- a mark takes no locks
 pub comes-marked : (origin : List Held) (session : ℕ) (setting : Setting) (rule : Rule) (progress p : Progress) (new : Database) (records : List Record) (clock : ℕ) →
     ComesTo origin new session records clock setting (marked rule progress) p → ComesTo origin new session records clock setting progress p
@@ -123,49 +130,49 @@ ends-map S R f (refused refusal) result h = h
 -- ---- a statement's answer
 
 -- a progress, unless the changes are refused
-abbrev ended_by : Result (List Change) Refusal → Progress → Result Progress Refusal
+abbrev ended_by : Result (List Change × Option ℕ) Refusal → Progress → Result Progress Refusal
 ended_by (Err refusal) p = Err refusal
 ended_by (Ok changes) p = Ok p
 
 statement-ended : (setting : Setting) (tables : Transition) (statement : Statement) (progress : Progress) →
-    run_statement setting tables statement progress ≡ ended_by (changes_meant setting tables statement progress) (after_statement setting tables statement progress)
+    run_statement setting tables statement progress ≡ ended_by (effect_meant setting tables statement progress) (after_statement setting tables statement progress)
 statement-ended setting tables statement progress = by (first_conflict progress.locks setting.who.session (statement_locks statement))
   where
     p : Progress
     p = record progress { locks = with_locks progress.locks setting.who.session (statement_locks statement) }
 
-    granted : (meant : Result (List Change) Refusal) → with_changes p meant ≡ ended_by meant (with_changes_of meant p)
+    granted : (meant : Result (List Change × Option ℕ) Refusal) → with_effect p meant ≡ ended_by meant (with_effect_of meant p)
     granted (Ok changes) = refl
     granted (Err refusal) = refl
 
-    meant : Option ℕ → Result (List Change) Refusal
-    meant o = elim o as (λ _. Result (List Change) Refusal) [ Some t ↦ Err (Locked (name_at setting.base t)) | None ↦ statement_changes (seen_with setting tables p) statement ]
+    meant : Option ℕ → Result (List Change × Option ℕ) Refusal
+    meant o = elim o as (λ _. Result (List Change × Option ℕ) Refusal) [ Some t ↦ Err (Locked (name_at setting.base t)) | None ↦ statement_effect setting tables statement p ]
 
     by : (o : Option ℕ) →
-        elim o as (λ _. Result Progress Refusal) [ Some t ↦ Err (Locked (name_at setting.base t)) | None ↦ with_changes p (statement_changes (seen_with setting tables p) statement) ]
-        ≡ ended_by (elim o as (λ _. Result (List Change) Refusal) [ Some t ↦ Err (Locked (name_at setting.base t)) | None ↦ statement_changes (seen_with setting tables p) statement ])
-        (with_changes_of (elim o as (λ _. Result (List Change) Refusal) [ Some t ↦ Err (Locked (name_at setting.base t)) | None ↦ statement_changes (seen_with setting tables p) statement ])
+        elim o as (λ _. Result Progress Refusal) [ Some t ↦ Err (Locked (name_at setting.base t)) | None ↦ with_effect p (statement_effect setting tables statement p) ]
+        ≡ ended_by (elim o as (λ _. Result (List Change × Option ℕ) Refusal) [ Some t ↦ Err (Locked (name_at setting.base t)) | None ↦ statement_effect setting tables statement p ])
+        (with_effect_of (elim o as (λ _. Result (List Change × Option ℕ) Refusal) [ Some t ↦ Err (Locked (name_at setting.base t)) | None ↦ statement_effect setting tables statement p ])
         (elim o as (λ _. Progress) [ Some t ↦ progress | None ↦ p ]))
     by (Some t) = refl
-    by None = granted (statement_changes (seen_with setting tables p) statement)
+    by None = granted (statement_effect setting tables statement p)
 
-counted-ok : (meant : Result (List Change) Refusal) (p : Progress) (n : ℕ) → Ok n ≡ counted meant → ended_by meant p ≡ Ok p
+counted-ok : (meant : Result (List Change × Option ℕ) Refusal) (p : Progress) (n : ℕ) → Ok n ≡ counted meant → ended_by meant p ≡ Ok p
 counted-ok (Ok changes) p n e = refl
 counted-ok (Err refusal) p n e = absurd (cc)
 
-counted-err : (meant : Result (List Change) Refusal) (p : Progress) (refusal : Refusal) → Err refusal ≡ counted meant → ended_by meant p ≡ Err refusal
+counted-err : (meant : Result (List Change × Option ℕ) Refusal) (p : Progress) (refusal : Refusal) → Err refusal ≡ counted meant → ended_by meant p ≡ Err refusal
 counted-err (Ok changes) p refusal e = absurd (cc)
 counted-err (Err other) p refusal e = cc
 
-pub statement-ok : (setting : Setting) (tables : Transition) (statement : Statement) (progress : Progress) (n : ℕ) → Ok n ≡ counted (changes_meant setting tables statement progress) →
+pub statement-ok : (setting : Setting) (tables : Transition) (statement : Statement) (progress : Progress) (n : ℕ) → Ok n ≡ counted (effect_meant setting tables statement progress) →
     run_statement setting tables statement progress ≡ Ok (after_statement setting tables statement progress)
 statement-ok setting tables statement progress n e =
-    statement-ended setting tables statement progress ∙ counted-ok (changes_meant setting tables statement progress) (after_statement setting tables statement progress) n e
+    statement-ended setting tables statement progress ∙ counted-ok (effect_meant setting tables statement progress) (after_statement setting tables statement progress) n e
 
-pub statement-err : (setting : Setting) (tables : Transition) (statement : Statement) (progress : Progress) (refusal : Refusal) → Err refusal ≡ counted (changes_meant setting tables statement progress) →
+pub statement-err : (setting : Setting) (tables : Transition) (statement : Statement) (progress : Progress) (refusal : Refusal) → Err refusal ≡ counted (effect_meant setting tables statement progress) →
     run_statement setting tables statement progress ≡ Err refusal
 statement-err setting tables statement progress refusal e =
-    statement-ended setting tables statement progress ∙ counted-err (changes_meant setting tables statement progress) (after_statement setting tables statement progress) refusal e
+    statement-ended setting tables statement progress ∙ counted-err (effect_meant setting tables statement progress) (after_statement setting tables statement progress) refusal e
 
 -- ---- a condition's answer
 
@@ -310,6 +317,6 @@ module _ (origin : List Held) (session : ℕ) (setting : Setting) (rule : Rule) 
   pub considered-refused : (refusal : Refusal) → result ≡ Err refusal → Goes stands (consider setting rule progress) (Err refusal) ⊎ ◌≡◌ {A = Result Consideration Refusal} (Err refusal) (Err NoMemory)
   considered-refused refusal e = goes-as (Err refusal) (goes-refused setting tables rule stands (tested tables) result answer refusal e)
 
--- a mark and locks leave the number of the tenant
-pub same-id : (old mid new : Database) → mid ≡ record old { transactions = mid.transactions } → new ≡ record mid { locks = new.locks } → old.id ≡ new.id
+-- a mark, locks and a budget leave the number of the tenant
+pub same-id : (old mid new : Database) → mid ≡ record old { transactions = mid.transactions } → new ≡ record mid { locks = new.locks; left = new.left } → old.id ≡ new.id
 same-id old mid new a b = sym (ap (λ (d : Database). d.id) b ∙ ap (λ (d : Database). d.id) a)

@@ -16,7 +16,7 @@ use Rattle.sb_rawlog.specs.Records.{Record}
 use Rattle.sb_process.specs.declared.database.Database.{Database}
 use Rattle.sb_process.specs.Represents.{Represents}
 use Rattle.sb_process.specs.Setting.{Setting, Progress}
-use Rattle.sb_process.specs.Statement.{with_changes_of, counted}
+use Rattle.sb_process.specs.Statement.{with_effect_of, counted}
 
 -- the new rows of the changes, that of the first change last
 abbrev pub copies_of : List Change → List (Option (List Value))
@@ -40,8 +40,8 @@ pub record CanApply (tables : List Held) (who : Who) (id : ℕ) (changes : List 
   pub own : AreChangesOf who id changes
   pub places : HavePlacesFor changes (stored_at tables id)
 
--- with the locks granted, the changes that are meant are made and counted; or memory runs out, and none is made
-abbrev pub Changes : List Held → Database → ℕ → Result (List Change) Refusal → Result ℕ Refusal → List Record → ℕ → Setting → Progress → Type 0
+-- with the locks granted, the changes that are meant are made and counted, and so much is left; or memory runs out, and none is made
+abbrev pub Changes : List Held → Database → ℕ → Result (List Change × Option ℕ) Refusal → Result ℕ Refusal → List Record → ℕ → Setting → Progress → Type 0
 Changes origin new session meant result records clock setting progress =
-    ((result ≡ counted meant) × Represents origin new session records clock setting (with_changes_of meant progress))
+    ((result ≡ counted meant) × Represents origin new session records clock setting (with_effect_of meant progress))
     ⊎ ((result ≡ Err NoMemory) × Represents origin new session records clock setting progress)

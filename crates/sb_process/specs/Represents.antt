@@ -1,5 +1,5 @@
 -- Machine: what memory and a log hold of a session's transaction.
-use Rattle.std.specs.Prelude.{◌≡◌, ◌≤◌, ℕ, Bool, ◌&&◌, nat_lt, List, [], ◌∷◌, IsTrue, IsFalse}
+use Rattle.std.specs.Prelude.{◌≡◌, ◌≤◌, ℕ, Bool, ◌&&◌, nat_lt, List, [], ◌∷◌, Option, IsTrue, IsFalse}
 use Rattle.sb_value.specs.declared.change.Change.{Change}
 use Rattle.sb_value.specs.declared.id.Who.{Who}
 use Rattle.sb_value.specs.declared.lock.LockMode.{LockMode}
@@ -41,7 +41,8 @@ AreLocked locks session (c ∷ cs) = IsTrue (locks session c.table Write) × Are
 
 -- what the log has of the session is the transaction's list; a time that isn't past the clock stands for each mark;
 -- a rule was last tested after its mark, and what it was tested for doesn't trigger it;
--- the tables are those that stand without the transaction, with its changes made; the locks are those that are held
+-- the tables are those that stand without the transaction, with its changes made; the locks are those that are held,
+-- and as much is left of the step's budget
 pub record Represents (origin : List Held) (database : Database) (session : ℕ) (records : List Record) (clock : ℕ) (setting : Setting) (progress : Progress) : Type 0 where
   pub who : setting.who ≡ who_in database session
   pub changes : changes_by (who_in database session) records ≡ progress.changes
@@ -54,6 +55,7 @@ pub record Represents (origin : List Held) (database : Database) (session : ℕ)
   pub locks : (s t : ℕ) (m : LockMode) → held database.locks s t m ≡ progress.locks s t m
   pub locked : AreLocked progress.locks session progress.changes
   pub candidates : AreCandidates database.transactions session progress setting.rules
+  pub left : database.left ≡ progress.left
 
 -- whether the session has locked one of the 16 tables for writing
 abbrev pub is_written : Locks → ℕ → ℕ → Bool
@@ -92,9 +94,9 @@ pub record IsKept (old new : Database) (session : ℕ) (records : List Record) (
 
 -- ---- the beginning of a transaction
 
--- no changes, all marks at 0
-abbrev pub begun : Locks → Progress
-begun locks = record { changes = []; marks = λ rule. 0; locks = locks }
+-- no changes, all marks at 0, and so much is left
+abbrev pub begun : Locks → Option ℕ → Progress
+begun locks left = record { changes = []; marks = λ rule. 0; locks = locks; left = left }
 
 -- the session has no transaction, and the tables stand without one
 pub record IsIdle (origin : List Held) (database : Database) (session : ℕ) (records : List Record) (setting : Setting) : Type 0 where

@@ -8,14 +8,14 @@ use Rattle.sb_value.specs.Locks.{first_conflict, with_locks}
 use Rattle.sb_check.specs.Condition.{Query}
 use Rattle.sb_tables.specs.Held.{Held, has_number, numbered}
 use Rattle.sb_eval.specs.Seen.{no_transition}
-use Rattle.sb_eval.specs.Statement.{query_locks, select_rows}
+use Rattle.sb_eval.specs.Statement.{query_locks}
 use Rattle.sb_eval.specs.declared.error.EvalError.{EvalError}
 use Rattle.sb_eval.specs.declared.error.EvalError.TheVariants as error
 use Rattle.sb_rawlog.specs.Records.{Record}
 use Rattle.sb_process.specs.declared.database.Database.{Database}
 use Rattle.sb_process.specs.Represents.{Represents}
 use Rattle.sb_process.specs.Setting.{Setting, Progress, seen_with}
-use Rattle.sb_process.specs.Consider.{with_request}
+use Rattle.sb_process.specs.Consider.{select_within, with_request}
 
 -- each table of the request is there
 abbrev pub AreThere : List Held → List (ℕ × LockMode) → Type 0
@@ -32,7 +32,7 @@ after_request setting request progress =
 
 -- the rows of a session's query, over the tables as they are seen
 abbrev pub selected : Setting → Query → Progress → Result (List (List Value)) Refusal
-selected setting q progress = with_request setting progress (query_locks q) (λ p. select_rows (seen_with setting no_transition p) q)
+selected setting q progress = with_request setting progress (query_locks q) (λ p. select_within (seen_with setting no_transition p) q p.left)
 
 -- the refusal names the table
 abbrev pub IsLocked : List Held → ℕ → Refusal → Type 0

@@ -7,7 +7,6 @@ use Rattle.sb_value.specs.declared.refusal.Verdict.{Verdict}
 use Rattle.sb_value.specs.declared.refusal.Verdict.TheVariants as verdict
 use Rattle.sb_value.specs.Locks.{released}
 use Rattle.sb_tables.specs.Held.{Held}
-use Rattle.sb_index.specs.TableSets.{TableSets}
 use Rattle.sb_eval.specs.Meaning.{has_row}
 use Rattle.sb_eval.specs.Refused.{with_given}
 use Rattle.sb_rawlog.specs.Records.{Record}
@@ -16,27 +15,10 @@ use Rattle.sb_process.specs.declared.Outcome.{Outcome}
 use Rattle.sb_process.specs.declared.Outcome.TheVariants.{Done, ByRule, ByError, ByLimit}
 use Rattle.sb_process.specs.declared.consider.Consideration.{Consideration}
 use Rattle.sb_process.specs.declared.consider.Consideration.TheVariants as consideration
-use Rattle.sb_catalog.specs.Definitions.{AreIndexed}
 use Rattle.sb_process.specs.Represents.{EachTransaction, Represents}
 use Rattle.sb_process.specs.Setting.{Setting, Progress}
 use Rattle.sb_process.specs.Process.{Processing}
 use Rattle.sb_process.specs.Consider.{Ending, ran, rolled_back, refused, Considered, was_false, was_true, was_refused}
-
--- a transaction, and the index of the operations that trigger its rules
-pub record IsRunning (origin : List Held) (database : Database) (session : ℕ) (records : List Record) (clock : ℕ) (index : List (List TableSets)) (setting : Setting) (progress : Progress) : Type 0 where
-  pub transaction : Represents origin database session records clock setting progress
-  pub indexed : AreIndexed index database.id setting.rules
-
--- some transaction is running
-abbrev pub IsUnderWay : Database → ℕ → List Record → ℕ → List (List TableSets) → Type 0
-IsUnderWay database session records clock index =
-    (origin : List Held) × (setting : Setting) × (progress : Progress) × IsRunning origin database session records clock index setting progress
-
--- so much is said of each transaction that is running
-abbrev pub EachRunning : Database → ℕ → List Record → ℕ → List (List TableSets) → (List Held → Setting → Progress → Type 0) → Type 0
-EachRunning database session records clock index Says =
-    (origin : List Held) (setting : Setting) (progress : Progress) → IsRunning origin database session records clock index setting progress
-    → Says origin setting progress
 
 -- the transaction has come to this; a release leaves the same locks as before
 pub record ComesTo (origin : List Held) (new : Database) (session : ℕ) (records : List Record) (clock : ℕ) (setting : Setting) (progress after : Progress) : Type 0 where
@@ -47,11 +29,6 @@ pub record ComesTo (origin : List Held) (new : Database) (session : ℕ) (record
 abbrev pub GoesOnHere : Database → Database → ℕ → Type 0
 GoesOnHere old new session =
     (records : List Record) (clock : ℕ) → EachTransaction old session records clock (λ origin setting progress. (after : Progress) × ComesTo origin new session records clock setting progress after)
-
--- each transaction that is running goes on
-abbrev pub GoesOn : Database → Database → ℕ → List (List TableSets) → List Record → List Record → ℕ → ℕ → Type 0
-GoesOn old new session index before later clock time =
-    EachRunning old session before clock index (λ origin setting progress. (after : Progress) × ComesTo origin new session later time setting progress after)
 
 -- ---- answers, where `stands` says what the transaction has come to
 

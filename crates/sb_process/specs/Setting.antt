@@ -18,11 +18,13 @@ pub record Setting : Type 0 where
   pub pairs : List (ℕ × ℕ)
   pub base : List Entry
 
--- what changes: the transaction's changes, a mark for each rule, which is a length of that list, and the tenant's locks
+-- what changes: the transaction's changes, a mark for each rule, which is a length of that list, the tenant's locks,
+-- and the work that is left to the step, if it has a budget
 pub record Progress : Type 0 where
   pub changes : List Change
   pub marks : ℕ → ℕ
   pub locks : Locks
+  pub left : Option ℕ
 
 -- the tables with the transaction's changes
 abbrev pub tables_seen : Setting → Progress → List Entry

@@ -16,6 +16,7 @@ use Rattle.sb_process.specs.declared.process.Rules.{Rules}
 use Rattle.sb_catalog.specs.Definitions.{AreIndexed, AreOrdered}
 use Rattle.sb_process.specs.Represents.{Represents, IsTakenBack}
 use Rattle.sb_process.specs.Request.{AreThere}
+use Rattle.sb_process.specs.Running.{ComesTo}
 use Rattle.sb_process.specs.Setting.{Setting, Progress}
 use Rattle.sb_process.specs.Process.{Processing, Standing, goes_on, taken_back, standing}
 
@@ -63,6 +64,11 @@ EachWork database session records clock rules Says =
     (origin : List Held) (setting : Setting) (progress : Progress)
     → IsWork origin database session records clock rules.index.now rules.catalog.now rules.order.now setting progress
     → Says origin setting progress
+
+-- each transaction goes on
+abbrev pub GoesOn : Database → Database → ℕ → Rules → List Record → List Record → ℕ → ℕ → Type 0
+GoesOn old new session rules before later clock time =
+    EachWork old session before clock rules (λ origin setting progress. (after : Progress) × ComesTo origin new session later time setting progress after)
 
 -- ---- what it leaves
 

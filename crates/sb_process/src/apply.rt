@@ -11,12 +11,12 @@ ghost use Rattle.sb_process.specs.Make.{HasPlaceFor, Makes};
 ghost use Rattle.sb_process.specs.PreparedChanges.{CanApply, copies_of};
 ghost use Rattle.sb_process.specs.Represents.{Represents, who_in};
 ghost use Rattle.sb_process.specs.Transactions.{OtherSessionsStay};
-ghost use Rattle.sb_process.specs.Running.{EachRunning};
+ghost use Rattle.sb_process.specs.Work.{EachWork};
 
 use crate::database::Database;
 use crate::make::make;
 use crate::prepared_changes::PreparedChanges;
-use sb_index::RuleIndex;
+use crate::process::Rules;
 use sb_rawlog::ChangeLog;
 use sb_value::{Change, Row, SessionId, TableId, last_change_triggers, proper_lists_have_lives};
 
@@ -25,7 +25,7 @@ impl Database {
     pub(crate) fn apply<L: ChangeLog>(
         &mut self,
         log: &mut L,
-        index: &RuleIndex,
+        rules: &Rules<'_>,
         session: SessionId,
         target: TableId,
         prepared_changes: PreparedChanges,
@@ -35,7 +35,7 @@ impl Database {
         requires locked { IsTrue (held self.old.locks session target mode.Write) }
         requires room { length prepared_changes.changes.items ≤ L.room log.old }
         requires clock { L.clock log.old + length prepared_changes.changes.items < 2 ^ 64 }
-        ensures all { EachRunning self.old session (L.records log.old) (L.clock log.old) index.now
+        ensures all { EachWork self.old session (L.records log.old) (L.clock log.old) rules.now
             (λ origin setting progress. Represents origin self.new session (L.records log.new) (L.clock log.new) setting
             (record progress { changes = progress.changes ++ prepared_changes.changes.items })) }
         ensures leaves { Leaves (length prepared_changes.changes.items) self.old self.new session
@@ -50,7 +50,7 @@ impl Database {
             let Some(copy) = copies.pop() else {
                 unreachable!()
             };
-            self.apply_one(log, index, session, change, copy);
+            self.apply_one(log, rules, session, change, copy);
         }
     }
 
@@ -58,7 +58,7 @@ impl Database {
     fn apply_one<L: ChangeLog>(
         &mut self,
         log: &mut L,
-        index: &RuleIndex,
+        rules: &Rules<'_>,
         session: SessionId,
         change: Change,
         copy: Option<Row>,
@@ -71,7 +71,7 @@ impl Database {
         requires locked { IsTrue (held self.old.locks session change.table mode.Write) }
         requires room { 0 < L.room log.old }
         requires clock { L.clock log.old < 2 ^ 64 - 1 }
-        ensures one { EachRunning self.old session (L.records log.old) (L.clock log.old) index.now
+        ensures one { EachWork self.old session (L.records log.old) (L.clock log.old) rules.now
             (λ origin setting progress. Represents origin self.new session (L.records log.new) (L.clock log.new) setting
             (record progress { changes = progress.changes ++ change ∷ [] })) }
         ensures makes { Makes change self.old.tables self.new.tables }
@@ -86,6 +86,7 @@ impl Database {
         last_change_triggers();
         proper_lists_have_lives();
         make(&mut self.tables, &change, copy);
+        let index = rules.index;
         self.transactions.join(session, index.candidates(&change));
         self.memory.count(session, &change);
         log.append(change);

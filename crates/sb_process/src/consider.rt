@@ -3,16 +3,16 @@ ghost use Rattle.std.specs.Prelude.{◌≡◌, ◌⊎◌, [], ◌∷◌, ◌*◌
 ghost use Rattle.sb_process.specs.Consider as spec;
 ghost use Rattle.sb_process.specs.Leaves.{HasRoom, Leaves};
 ghost use Rattle.sb_process.specs.Represents.{EachTransaction, Represents};
-ghost use Rattle.sb_process.specs.Running.{EachRunning, IsUnderWay, ComesTo, Acts, Ends, Goes, GoesOn};
+ghost use Rattle.sb_process.specs.Running.{ComesTo, Acts, Ends, Goes};
 ghost use Rattle.sb_process.specs.Setting.{marked, rule_tables};
 ghost use Rattle.sb_process.specs.Transactions.{OtherSessionsStay};
-ghost use Rattle.sb_process.specs.Work.{AreActionsThere, CanRunRule};
+ghost use Rattle.sb_process.specs.Work.{AreActionsThere, CanRunRule, EachWork, GoesOn, IsAtWork};
 
 use crate::database::Database;
+use crate::process::Rules;
 use crate::view::Viewer;
 use sb_catalog::Rule;
 use sb_check::Action;
-use sb_index::RuleIndex;
 use sb_net::transition_tables;
 use sb_rawlog::ChangeLog;
 use sb_value::{Refusal, SessionId, Transition};
@@ -40,17 +40,17 @@ impl Database {
         &mut self,
         alloc: Global,
         log: &mut L,
-        index: &RuleIndex,
+        rules: &Rules<'_>,
         chosen: &Chosen<'_>,
     ) -> Result<Consideration, Refusal>
-        requires running { IsUnderWay self.old chosen.now.session (L.records log.old) (L.clock log.old) index.now }
+        requires running { IsAtWork self.old chosen.now.session (L.records log.old) (L.clock log.old) rules.now }
         requires rule { CanRunRule self.old.tables chosen.now.rule.now }
         requires room { HasRoom 32768 (L.clock log.old) self.old.tables }
-        ensures considered { EachRunning self.old chosen.now.session (L.records log.old) (L.clock log.old) index.now
+        ensures considered { EachWork self.old chosen.now.session (L.records log.old) (L.clock log.old) rules.now
             (λ origin setting progress.
             Goes (ComesTo origin self.new chosen.now.session (L.records log.new) (L.clock log.new) setting progress)
             (spec.consider setting chosen.now.rule.now progress) result ⊎ (result ≡ Err Refusal.NoMemory)) }
-        ensures under_way { GoesOn self.old self.new chosen.now.session index.now
+        ensures under_way { GoesOn self.old self.new chosen.now.session rules.now
             (L.records log.old) (L.records log.new) (L.clock log.old) (L.clock log.new) }
         ensures leaves { Leaves 32768 self.old self.new chosen.now.session
             (L.records log.old) (L.records log.new) (L.clock log.old) (L.clock log.new) }
@@ -67,7 +67,7 @@ impl Database {
         };
         match self.test(alloc, &viewer, &chosen.rule.condition) {
             Ok(true) => {
-                self.run_actions(alloc, log, index, &viewer, chosen.rule.actions.as_slice())
+                self.run_actions(alloc, log, rules, &viewer, chosen.rule.actions.as_slice())
             }
             Ok(false) => Ok(Consideration::False),
             Err(refusal) => Err(refusal),
@@ -119,19 +119,19 @@ impl Database {
         &mut self,
         alloc: Global,
         log: &mut L,
-        index: &RuleIndex,
+        rules: &Rules<'_>,
         viewer: &Viewer<'_>,
         actions: &[Action],
     ) -> Result<Consideration, Refusal>
-        requires running { IsUnderWay self.old viewer.now.session (L.records log.old) (L.clock log.old) index.now }
+        requires running { IsAtWork self.old viewer.now.session (L.records log.old) (L.clock log.old) rules.now }
         requires actions { AreActionsThere self.old.tables actions.now }
         requires room { HasRoom (4096 * length actions.now) (L.clock log.old) self.old.tables }
-        ensures ran { EachRunning self.old viewer.now.session (L.records log.old) (L.clock log.old) index.now
+        ensures ran { EachWork self.old viewer.now.session (L.records log.old) (L.clock log.old) rules.now
             (λ origin setting progress.
             Ends (ComesTo origin self.new viewer.now.session (L.records log.new) (L.clock log.new) setting progress)
             (spec.run_actions setting viewer.now.tables.now actions.now progress) result
             ⊎ (result ≡ Err Refusal.NoMemory)) }
-        ensures under_way { GoesOn self.old self.new viewer.now.session index.now
+        ensures under_way { GoesOn self.old self.new viewer.now.session rules.now
             (L.records log.old) (L.records log.new) (L.clock log.old) (L.clock log.new) }
         ensures leaves { Leaves (4096 * length actions.now) self.old self.new viewer.now.session
             (L.records log.old) (L.records log.new) (L.clock log.old) (L.clock log.new) }
@@ -139,8 +139,8 @@ impl Database {
         match actions {
             [] => Ok(Consideration::True),
             [first, rest @ ..] => {
-                match self.run_action(alloc, log, index, viewer, first) {
-                    Ok(true) => self.run_actions(alloc, log, index, viewer, rest),
+                match self.run_action(alloc, log, rules, viewer, first) {
+                    Ok(true) => self.run_actions(alloc, log, rules, viewer, rest),
                     Ok(false) => Ok(Consideration::RolledBack),
                     Err(refusal) => Err(refusal),
                 }
@@ -153,19 +153,19 @@ impl Database {
         &mut self,
         alloc: Global,
         log: &mut L,
-        index: &RuleIndex,
+        rules: &Rules<'_>,
         viewer: &Viewer<'_>,
         action: &Action,
     ) -> Result<bool, Refusal>
-        requires running { IsUnderWay self.old viewer.now.session (L.records log.old) (L.clock log.old) index.now }
+        requires running { IsAtWork self.old viewer.now.session (L.records log.old) (L.clock log.old) rules.now }
         requires action { AreActionsThere self.old.tables (action.now ∷ []) }
         requires room { HasRoom 4096 (L.clock log.old) self.old.tables }
-        ensures ran { EachRunning self.old viewer.now.session (L.records log.old) (L.clock log.old) index.now
+        ensures ran { EachWork self.old viewer.now.session (L.records log.old) (L.clock log.old) rules.now
             (λ origin setting progress.
             Acts (ComesTo origin self.new viewer.now.session (L.records log.new) (L.clock log.new) setting progress)
             (spec.run_actions setting viewer.now.tables.now (action.now ∷ []) progress) result
             ⊎ (result ≡ Err Refusal.NoMemory)) }
-        ensures under_way { GoesOn self.old self.new viewer.now.session index.now
+        ensures under_way { GoesOn self.old self.new viewer.now.session rules.now
             (L.records log.old) (L.records log.new) (L.clock log.old) (L.clock log.new) }
         ensures leaves { Leaves 4096 self.old self.new viewer.now.session
             (L.records log.old) (L.records log.new) (L.clock log.old) (L.clock log.new) }
@@ -173,7 +173,7 @@ impl Database {
         match action {
             Action::Rollback => Ok(false),
             Action::Change(statement) => {
-                match self.run(alloc, log, index, viewer, statement) {
+                match self.run(alloc, log, rules, viewer, statement) {
                     Ok(_) => Ok(true),
                     Err(refusal) => Err(refusal),
                 }

@@ -20,6 +20,8 @@ pub struct Database {
     pub transactions: Transactions,
     /// What the rows and the open transactions take, by estimates.
     pub memory: MemoryUse,
+    /// The work that is left to the step, in units, if it has a budget.
+    pub left: Option<u32>,
 }
 
 impl Drop for Database {
@@ -30,6 +32,7 @@ impl Drop for Database {
             locks: _,
             transactions: _,
             memory: _,
+            left: _,
         } = self;
     }
 }
@@ -49,6 +52,7 @@ impl Database {
             locks: Locks::new(),
             transactions: Transactions::new(alloc),
             memory: MemoryUse::new(),
+            left: None,
         }
     }
 

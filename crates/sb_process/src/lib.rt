@@ -4,6 +4,7 @@
 ghost use Rattle.std.specs.Prelude.{◌≡◌};
 
 mod apply;
+mod budget;
 mod candidates;
 mod change;
 mod condition;

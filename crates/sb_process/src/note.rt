@@ -2,13 +2,13 @@
 ghost use Rattle.std.specs.Prelude.{◌≡◌, ◌≢◌, ◌<◌, ◌++◌, ◌∷◌, [], IfOk, OnOk, OnErr, vec_len, vec_capacity};
 ghost use Rattle.sb_process.specs.Consider as spec;
 ghost use Rattle.sb_process.specs.Leaves.{HasRoom, Leaves};
-ghost use Rattle.sb_process.specs.Running.{EachRunning, IsUnderWay, ComesTo, GoesOn, Notes, outcome_noted, verdict_noted};
-ghost use Rattle.sb_process.specs.Work.{CanRunRule};
+ghost use Rattle.sb_process.specs.Running.{ComesTo, Notes, outcome_noted, verdict_noted};
+ghost use Rattle.sb_process.specs.Work.{CanRunRule, EachWork, GoesOn, IsAtWork};
 
 use crate::Outcome;
 use crate::consider::{Chosen, Consideration};
 use crate::database::Database;
-use sb_index::RuleIndex;
+use crate::process::Rules;
 use sb_rawlog::ChangeLog;
 use sb_value::{Refusal, RuleId, Verdict};
 use std::alloc::{AllocError, Global};
@@ -19,19 +19,19 @@ impl Database {
         &mut self,
         alloc: Global,
         log: &mut L,
-        index: &RuleIndex,
+        rules: &Rules<'_>,
         chosen: &Chosen<'_>,
         trace: &mut Vec<(RuleId, Verdict)>,
     ) -> Result<Option<Outcome>, AllocError>
-        requires running { IsUnderWay self.old chosen.now.session (L.records log.old) (L.clock log.old) index.now }
+        requires running { IsAtWork self.old chosen.now.session (L.records log.old) (L.clock log.old) rules.now }
         requires rule { CanRunRule self.old.tables chosen.now.rule.now }
         requires room { HasRoom 32768 (L.clock log.old) self.old.tables }
-        ensures noted { EachRunning self.old chosen.now.session (L.records log.old) (L.clock log.old) index.now
+        ensures noted { EachWork self.old chosen.now.session (L.records log.old) (L.clock log.old) rules.now
             (λ origin setting progress. IfOk result (λ o.
             Notes (ComesTo origin self.new chosen.now.session (L.records log.new) (L.clock log.new) setting progress)
             chosen.now.rule.now.id progress (spec.consider setting chosen.now.rule.now progress)
             trace.old.items trace.new.items o)) }
-        ensures under_way { GoesOn self.old self.new chosen.now.session index.now
+        ensures under_way { GoesOn self.old self.new chosen.now.session rules.now
             (L.records log.old) (L.records log.new) (L.clock log.old) (L.clock log.new) }
         ensures leaves { Leaves 32768 self.old self.new chosen.now.session
             (L.records log.old) (L.records log.new) (L.clock log.old) (L.clock log.new) }
@@ -39,7 +39,7 @@ impl Database {
         if trace.reserve(1).is_err() {
             return Err(AllocError);
         }
-        let considered = self.consider(alloc, log, index, chosen);
+        let considered = self.consider(alloc, log, rules, chosen);
         note(trace, chosen.rule.id, considered)
     }
 }

@@ -153,7 +153,7 @@ impl Database {
                 session: point.session,
                 rule,
             };
-            match self.consider_noted(alloc, log, rules.index, &chosen, trace) {
+            match self.consider_noted(alloc, log, rules, &chosen, trace) {
                 Ok(None) => {}
                 Ok(Some(outcome)) => return Ok(outcome),
                 Err(error) => return Err(error),

@@ -3,6 +3,7 @@ ghost use Rattle.std.specs.Prelude.{◌≡◌, ℕ, List};
 ghost use Rattle.sb_eval.specs.Seen as seen;
 ghost use Rattle.sb_eval.specs.Statement as spec;
 ghost use Rattle.sb_rawlog.specs.Records.{Record};
+ghost use Rattle.sb_process.specs.Consider.{select_within};
 ghost use Rattle.sb_process.specs.Represents.{EachTransaction, who_in};
 ghost use Rattle.sb_process.specs.Request.{AreThere, IsAnswer, Selects};
 ghost use Rattle.sb_process.specs.View.{seen_by};
@@ -42,17 +43,33 @@ impl Database {
         }
     }
 
-    /// The rows of a query over the tables as they are, without transition tables.
+    /// The rows of a query over the tables as they are, without transition tables, if its work is within the budget.
     fn rows(&self, alloc: Global, session: SessionId, query: &Query) -> Result<SharedRows, Refusal>
-        ensures { IsAnswer (spec.select_rows
-            (seen_by self.now.tables seen.no_transition (who_in self.now session)) query.now) result }
+        ensures { IsAnswer (select_within
+            (seen_by self.now.tables seen.no_transition (who_in self.now session)) query.now self.now.left) result }
     {
         let none = no_transition(alloc);
         let viewer = Viewer {
             session,
             tables: &none,
         };
-        let view = self.view(&viewer);
+        match self.left_after_query(&viewer, query) {
+            Ok(_) => self.rows_seen(alloc, &viewer, query),
+            Err(refusal) => Err(refusal),
+        }
+    }
+
+    /// The rows of a query over what a viewer sees.
+    fn rows_seen(
+        &self,
+        alloc: Global,
+        viewer: &Viewer<'_>,
+        query: &Query,
+    ) -> Result<SharedRows, Refusal>
+        ensures { IsAnswer (spec.select_rows
+            (seen_by self.now.tables viewer.now.tables.now (who_in self.now viewer.now.session)) query.now) result }
+    {
+        let view = self.view(viewer);
         match select_rows(alloc, query, &view) {
             Ok(rows) => Ok(rows),
             Err(error) => Err(refusal_for(error)),

@@ -21,7 +21,7 @@ impl Database {
     pub fn begin(&mut self, session: SessionId)
         ensures begun { (origin : List Held) (records : List Record) (clock : ℕ) (setting : Setting) →
             IsIdle origin self.old session records setting →
-            Represents origin self.new session records clock setting (begun (held self.old.locks)) }
+            Represents origin self.new session records clock setting (begun (held self.old.locks) self.old.left) }
         ensures id { self.new.id ≡ self.old.id }
         ensures tables { self.new.tables ≡ self.old.tables }
         ensures sessions { OtherSessionsStay self.old.transactions self.new.transactions session }

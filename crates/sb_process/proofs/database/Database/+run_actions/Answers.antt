@@ -4,12 +4,12 @@ use Rattle.sb_check.specs.declared.tree.Action.{Action}
 use Rattle.sb_process.specs.declared.consider.Consideration.{Consideration}
 use Rattle.sb_process.specs.declared.consider.Consideration.TheVariants.{RolledBack}
 use Rattle.sb_process.specs.Consider.{Ending, run_actions}
-use Rattle.sb_catalog.specs.Definitions.{AreIndexed}
 use Rattle.sb_process.specs.Running.{ComesTo, Ends}
 use Rattle.sb_process.specs.Setting.{Progress}
 use Rattle.sb_process.specs.Work.{AreActionsThere}
 use Rattle.sb_process.proofs.LockLists.{whole}
 use Rattle.sb_process.proofs.Leaving.{leaves-on, leaves-more, room-less, room-behind}
+use Rattle.sb_process.proofs.Works.{work-with}
 use Rattle.sb_process.proofs.Running.{actions-there, same-numbers, rest-there, comes-on, first-ran, first-rolled_back, first-refused, acted, ends-after, ends-refused}
 use Rattle.sb_process.proofs.database.Database.+run_actions.Goals as goal
 
@@ -32,10 +32,7 @@ run_actions-requires g t c = λ κs le.
             w.0,
             w.1,
             come.0,
-            record {
-              transaction = come.1.stands;
-              indexed = subst (λ id. AreIndexed c.args.index.now id (w.1).rules) (sym c.run_action.ensures.leaves.id) w.3.indexed;
-            },
+            work-with w.3 come.1.stands (sym c.run_action.ensures.leaves.id),
           ),
           (
             actions-there c.args.self.now.tables c.run_action.new.self.tables
@@ -66,7 +63,7 @@ returns-in-Ok-true-clause-ran g t c = λ origin setting progress w.
     (ap (λ (l : List Action). run_actions setting c.args.viewer.now.tables.now l progress) e ∙ one.2)
     (λ q h. comes-on origin session setting progress one.0 q mid.self new.self (g.L.ChangeLog.records mid.log) (g.L.ChangeLog.records new.log) (g.L.ChangeLog.clock mid.log) (g.L.ChangeLog.clock new.log) one.1 h)
     (c.run_actions.ensures.ran origin setting one.0
-    (record { transaction = (one.1).stands; indexed = subst (λ id. AreIndexed c.args.index.now id setting.rules) (sym c.run_action.ensures.leaves.id) w.indexed }))
+    (work-with w (one.1).stands (sym c.run_action.ensures.leaves.id)))
 
 pub returns-in-Ok-true-clause-under_way : goal.returns-in-Ok-true-clause-under_way
 returns-in-Ok-true-clause-under_way g t c = λ origin setting progress w.
@@ -74,7 +71,7 @@ returns-in-Ok-true-clause-under_way g t c = λ origin setting progress w.
     let mid = c.run_action.new in let new = c.run_actions.new in
     let one = c.run_action.ensures.under_way origin setting progress w in
     let all = c.run_actions.ensures.under_way origin setting one.0
-    (record { transaction = (one.1).stands; indexed = subst (λ id. AreIndexed c.args.index.now id setting.rules) (sym c.run_action.ensures.leaves.id) w.indexed }) in (
+    (work-with w (one.1).stands (sym c.run_action.ensures.leaves.id)) in (
       all.0,
       comes-on origin session setting progress one.0 all.0 mid.self new.self (g.L.ChangeLog.records mid.log) (g.L.ChangeLog.records new.log) (g.L.ChangeLog.clock mid.log) (g.L.ChangeLog.clock new.log)
           one.1 all.1,

@@ -7,10 +7,10 @@ use Rattle.sb_value.specs.declared.lock.LockMode.TheVariants.{Write}
 use Rattle.sb_locks.specs.Held.{Holders, held}
 use Rattle.sb_process.specs.Made.{NumbersBelow}
 use Rattle.sb_process.specs.PreparedChanges.{CanApply, copies_of}
-use Rattle.sb_catalog.specs.Definitions.{AreIndexed}
 use Rattle.sb_process.specs.Represents.{Represents, who_in}
 use Rattle.sb_process.proofs.Applying.{first_fits, others_can, below_one, none_left}
 use Rattle.sb_process.proofs.Preparing.{last_same}
+use Rattle.sb_process.proofs.Works.{work-with}
 use Rattle.sb_process.proofs.database.Database.apply.Goals as goal
 
 pub loop-change-init : goal.loop-change-init
@@ -78,7 +78,7 @@ loop-change-preserved g c =
             (λ (cs : List Change). Represents origin c.apply_one.new.self c.args.session (g.L.ChangeLog.records c.apply_one.new.log) (g.L.ChangeLog.clock c.apply_one.new.log) setting (record progress { changes = cs }))
             (append_assoc progress.changes v.made.0 (x ∷ []))
             (c.apply_one.ensures.one origin setting (record progress { changes = progress.changes ++ v.made.0 })
-            (record { transaction = v.made.2 origin setting progress w; indexed = subst (λ (id : ℕ). AreIndexed c.args.index.now id setting.rules) (sym v.id) w.indexed })),
+            (work-with w (v.made.2 origin setting progress w) (sym v.id))),
       );
       id = same ∙ v.id;
       sessions = λ s r other. let a = c.apply_one.ensures.sessions s r other in let b = v.sessions s r other in (a.0 ∙ b.0, a.1 ∙ b.1, a.2 ∙ b.2);

@@ -7,7 +7,7 @@ use Rattle.sb_locks.specs.Held.{held}
 use Rattle.sb_process.specs.Made.{NumbersBelow}
 use Rattle.sb_process.specs.PreparedChanges.{CanApply, copies_of}
 use Rattle.sb_process.specs.Represents.{Represents, who_in}
-use Rattle.sb_process.specs.Running.{EachRunning}
+use Rattle.sb_process.specs.Work.{EachWork}
 use Rattle.sb_process.specs.Transactions.{OtherSessionsStay}
 use Rattle.sb_process.proofs.database.Database.apply.Given as goal
 
@@ -23,7 +23,7 @@ invariant-loop-change g l =
       room : length left ≤ g.L.ChangeLog.room l.log;
       clock : g.L.ChangeLog.clock l.log + length left ≡ g.L.ChangeLog.clock l.initial.log + length l.fn.prepared_changes.changes.items;
       made : (done : List Change) × (done ++ left ≡ l.fn.prepared_changes.changes.items) ×
-          EachRunning l.initial.self l.session (g.L.ChangeLog.records l.initial.log) (g.L.ChangeLog.clock l.initial.log) l.index (λ origin setting progress.
+          EachWork l.initial.self l.session (g.L.ChangeLog.records l.initial.log) (g.L.ChangeLog.clock l.initial.log) l.rules (λ origin setting progress.
           Represents origin l.self l.session (g.L.ChangeLog.records l.log) (g.L.ChangeLog.clock l.log) setting (record progress { changes = progress.changes ++ done }));
       id : l.self.id ≡ l.initial.self.id;
       sessions : OtherSessionsStay l.initial.self.transactions l.self.transactions l.session;

@@ -1,4 +1,4 @@
-use Rattle.std.proofs.Common.{◌∙◌, ℕ, cond, Bool, List, [], ◌∷◌, sym, ap, refl, arith, true≢false}
+use Rattle.std.proofs.Common.{◌∙◌, ℕ, cond, Bool, List, [], ◌∷◌, Option, sym, ap, refl, arith, true≢false}
 use Rattle.sb_catalog.specs.declared.rule.Rule.{Rule}
 use Rattle.sb_process.specs.Transactions.{Kept, mark_of, tested_of}
 use Rattle.sb_process.specs.Represents.{AreCandidates, begun, who_in}
@@ -10,9 +10,9 @@ use Rattle.sb_process.proofs.Testing.{none-untriggered}
 use Rattle.sb_process.proofs.database.Database.begin.Goals as goal
 
 -- no changes trigger nothing
-no_candidates : (kept : Kept) (session : ℕ) (locks : Locks) (rules : List Rule) → AreCandidates kept session (begun locks) rules
-no_candidates kept session locks [] = tt
-no_candidates kept session locks (r ∷ rules) = (λ active triggered. absurd (true≢false (sym triggered)), no_candidates kept session locks rules)
+no_candidates : (kept : Kept) (session : ℕ) (locks : Locks) (left : Option ℕ) (rules : List Rule) → AreCandidates kept session (begun locks left) rules
+no_candidates kept session locks left [] = tt
+no_candidates kept session locks left (r ∷ rules) = (λ active triggered. absurd (true≢false (sym triggered)), no_candidates kept session locks left rules)
 
 pub returns-clause-begun : goal.returns-clause-begun
 returns-clause-begun c = λ origin records clock setting i.
@@ -29,5 +29,6 @@ returns-clause-begun c = λ origin records clock setting i.
       made = i.made;
       locks = λ s t m. refl;
       locked = tt;
-      candidates = no_candidates c.begin.new.self c.args.session (held c.args.self.now.locks) setting.rules;
+      candidates = no_candidates c.begin.new.self c.args.session (held c.args.self.now.locks) c.args.self.now.left setting.rules;
+      left = refl;
     }

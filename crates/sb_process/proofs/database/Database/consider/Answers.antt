@@ -3,10 +3,10 @@ use Rattle.sb_value.specs.declared.net.Transition.{Transition}
 use Rattle.sb_value.specs.declared.refusal.Refusal.TheVariants.{NoMemory}
 use Rattle.sb_check.specs.declared.tree.Action.{Action}
 use Rattle.sb_process.specs.Consider.{Considered, test_condition, run_actions}
-use Rattle.sb_catalog.specs.Definitions.{AreIndexed}
 use Rattle.sb_process.specs.Running.{ComesTo, Goes}
 use Rattle.sb_process.specs.Setting.{Progress, marked}
 use Rattle.sb_process.proofs.Leaving.{leaves-all, leaves-marked, leaves-on, leaves-more, room-less, room-behind}
+use Rattle.sb_process.proofs.Works.{work-with}
 use Rattle.sb_process.proofs.Running.{same-id, ends-after, comes-on, comes-marked, considered, went, considered-false, considered-refused, goes-true}
 use Rattle.sb_process.proofs.database.Database.consider.Goals as goal
 
@@ -20,10 +20,7 @@ run_actions-requires-clause-running g c =
       w.0,
       w.1,
       come.0,
-      record {
-        transaction = (come.1).stands;
-        indexed = subst (λ id. AreIndexed c.args.index.now id (w.1).rules) (same-id c.args.self.now c.mark_now.new.self c.test.new.self c.in-Ok-mark_now.ensures.only_marks c.test.ensures.only_locks) w.3.indexed;
-      },
+      work-with w.3 (come.1).stands (same-id c.args.self.now c.mark_now.new.self c.test.new.self c.in-Ok-mark_now.ensures.only_marks c.test.ensures.only_locks),
     )
 
 pub returns-in-Ok-true-clause-considered : goal.returns-in-Ok-true-clause-considered
@@ -42,10 +39,7 @@ returns-in-Ok-true-clause-considered g c = λ origin setting progress w.
     let last = ends-after R Q (run_actions setting tables rule.actions one.0) (run_actions setting tables c.as_slice.result.now one.0) c.run_actions.result
     (ap (λ (l : List Action). run_actions setting tables l one.0) (sym c.as_slice.ensures))
     (λ q h. comes-on origin session setting progress one.0 q mid new.self records later clock time (comes-marked origin session setting rule progress one.0 mid records clock one.1) h)
-    (c.run_actions.ensures.ran origin setting one.0 (record {
-      transaction = (one.1).stands;
-      indexed = subst (λ id. AreIndexed c.args.index.now id setting.rules) (same-id c.args.self.now c.mark_now.new.self mid c.in-Ok-mark_now.ensures.only_marks c.test.ensures.only_locks) w.indexed;
-    })) in
+    (c.run_actions.ensures.ran origin setting one.0 (work-with w (one.1).stands (same-id c.args.self.now c.mark_now.new.self mid c.in-Ok-mark_now.ensures.only_marks c.test.ensures.only_locks))) in
     subst (λ (x : Considered). Goes R x c.run_actions.result ⊎ (c.run_actions.result ≡ Err NoMemory))
     (ap (λ (t : Transition). considered setting t rule (test_condition setting t rule.condition start)) (c.in-Ok.ensures origin setting progress w.transaction))
     (goes-true setting tables rule S tested c.test.result answer R one.0 c.run_actions.result one.2 last)
@@ -56,10 +50,7 @@ returns-in-Ok-true-clause-under_way g c = λ origin setting progress w.
     let records = g.L.ChangeLog.records c.args.log.now in let clock = g.L.ChangeLog.clock c.args.log.now in
     let mid = c.test.new.self in let new = c.run_actions.new in
     let one = c.test.ensures.under_way records clock origin setting (marked rule progress) (c.in-Ok-mark_now.ensures.marked origin setting progress w.transaction) in
-    let all = c.run_actions.ensures.under_way origin setting one.0 (record {
-      transaction = (one.1).stands;
-      indexed = subst (λ id. AreIndexed c.args.index.now id setting.rules) (same-id c.args.self.now c.mark_now.new.self mid c.in-Ok-mark_now.ensures.only_marks c.test.ensures.only_locks) w.indexed;
-    }) in (
+    let all = c.run_actions.ensures.under_way origin setting one.0 (work-with w (one.1).stands (same-id c.args.self.now c.mark_now.new.self mid c.in-Ok-mark_now.ensures.only_marks c.test.ensures.only_locks)) in (
       all.0,
       comes-on origin session setting progress one.0 all.0 mid new.self records (g.L.ChangeLog.records new.log) clock (g.L.ChangeLog.clock new.log)
           (comes-marked origin session setting rule progress one.0 mid records clock one.1) all.1,

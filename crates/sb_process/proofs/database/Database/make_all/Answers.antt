@@ -5,6 +5,7 @@ use Rattle.sb_process.specs.Leaves.{Leaves}
 use Rattle.sb_process.specs.PreparedChanges.{CanApply}
 use Rattle.sb_process.specs.Represents.{Represents, who_in}
 use Rattle.sb_process.proofs.Leaving.{leaves-on, leaves-more, room-below}
+use Rattle.sb_process.proofs.Works.{work-with}
 use Rattle.sb_process.proofs.Preparing.{can_apply, with_room, leaves-prepared}
 use Rattle.sb_process.proofs.database.Database.make_all.Goals as goal
 
@@ -25,7 +26,7 @@ returns-in-Ok-clause-made g c = λ origin setting progress w.
     let d : Database = record c.args.self.now { tables = c.prepare.new.tables } in
     let prepared_changes = with_room c.args.self.now c.prepare.new.tables c.args.session (g.L.ChangeLog.records c.args.log.now) (g.L.ChangeLog.records c.prepare.new.log) (g.L.ChangeLog.clock c.args.log.now)
     (g.L.ChangeLog.clock c.prepare.new.log) setting progress origin w.transaction c.prepare.ensures.same c.prepare.ensures.records c.prepare.ensures.clock in
-    let all = c.apply.ensures.all origin setting progress (record { transaction = prepared_changes; indexed = w.indexed }) in
+    let all = c.apply.ensures.all origin setting progress (work-with w prepared_changes refl) in
     inl (
       ap Ok (c.len-count.ensures ∙ c.args.effect.changes.ok.0),
       subst

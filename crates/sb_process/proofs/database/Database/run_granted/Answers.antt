@@ -1,8 +1,7 @@
-use Rattle.std.proofs.Common.{◌∙◌, ℕ, List, Result, Err, inl, inr, refl, sym, ap, subst}
+use Rattle.std.proofs.Common.{◌∙◌, ℕ, List, Option, Result, Ok, Err, inl, inr, refl, sym, ap, subst}
 use Rattle.sb_value.specs.declared.change.Change.{Change}
 use Rattle.sb_value.specs.declared.refusal.Refusal.{Refusal}
 use Rattle.sb_eval.specs.Laws.{AreMakeable}
-use Rattle.sb_eval.specs.Statement.{statement_changes}
 use Rattle.sb_eval.specs.Target.{target}
 use Rattle.sb_tables.specs.Held.{entries}
 use Rattle.sb_process.specs.PreparedChanges.{Changes}
@@ -10,8 +9,8 @@ use Rattle.sb_process.specs.Represents.{who_in}
 use Rattle.sb_process.specs.View.{seen_by}
 use Rattle.sb_process.proofs.Growing.{tables_are}
 use Rattle.sb_process.proofs.Making.{number-entries}
-use Rattle.sb_process.proofs.Leaving.{leaves-all}
-use Rattle.sb_process.proofs.Requests.{same_seen}
+use Rattle.sb_process.proofs.Leaving.{leaves-all, leaves-charged}
+use Rattle.sb_process.proofs.Effects.{effect-same, made-charged, not-made}
 use Rattle.sb_process.proofs.Settling.{sound-made}
 use Rattle.sb_process.proofs.database.Database.run_granted.Goals as goal
 
@@ -32,23 +31,33 @@ make_all-requires-clause-makeable g c =
     let t : ℕ = target c.args.statement.now in
     subst (λ (n : ℕ). AreMakeable (entries c.args.self.now.tables) (who_in c.args.self.now c.args.viewer.now.session) n c.in-Ok.changes.items) (sym c.target.ensures)
     (c.changes_are_proper.ensures (seen_by c.args.self.now.tables c.args.viewer.now.tables.now (who_in c.args.self.now c.args.viewer.now.session)) c.args.statement.now c.in-Ok.changes.items
-    (number-entries c.args.self.now.tables t ∙ c.requires.there) (tables_are c.args.self.now.tables t sound.1) c.in-Ok.ensures.ok)
+    (number-entries c.args.self.now.tables t ∙ c.requires.there) (tables_are c.args.self.now.tables t sound.1) c.in-Ok.ensures.ok.0)
 
-pub returns-in-Ok-clause-ran : goal.returns-in-Ok-clause-ran
-returns-in-Ok-clause-ran g c = λ origin setting progress w.
-    let seen = same_seen w.transaction c.args.viewer.now.tables.now progress refl in
-    subst
-    (λ (meant : Result (List Change) Refusal). Changes origin c.make_all.new.self c.args.viewer.now.session meant c.make_all.result (g.L.ChangeLog.records c.make_all.new.log) (g.L.ChangeLog.clock c.make_all.new.log) setting progress)
-    (sym (ap (λ s. statement_changes s c.args.statement.now) seen ∙ c.in-Ok.ensures.ok)) (c.make_all.ensures.made origin setting progress w)
+-- the changes are made, and so much is left
+pub returns-in-Ok-make_all-clause-ran : goal.returns-in-Ok-make_all-clause-ran
+returns-in-Ok-make_all-clause-ran g c = λ origin setting progress w.
+    let meant = effect-same w c.args.viewer.now.tables.now c.args.statement.now ∙ c.in-Ok.ensures.ok.1 in
+    made-charged origin c.make_all.new.self c.args.viewer.now.session c.in-Ok.changes.items c.in-Ok.left c.in-Ok-make_all.count _ _ setting progress
+    meant (subst (λ r. Changes origin c.make_all.new.self c.args.viewer.now.session (Ok (c.in-Ok.changes.items, progress.left)) r (g.L.ChangeLog.records c.make_all.new.log) (g.L.ChangeLog.clock c.make_all.new.log) setting progress)
+    c.in-Ok-make_all.is (c.make_all.ensures.made origin setting progress w))
+
+pub returns-in-Err-make_all-clause-ran : goal.returns-in-Err-make_all-clause-ran
+returns-in-Err-make_all-clause-ran g c = λ origin setting progress w.
+    not-made origin c.make_all.new.self c.args.viewer.now.session c.in-Ok.changes.items c.in-Err-make_all.refusal _ _ setting progress _
+    (subst (λ r. Changes origin c.make_all.new.self c.args.viewer.now.session (Ok (c.in-Ok.changes.items, progress.left)) r (g.L.ChangeLog.records c.make_all.new.log) (g.L.ChangeLog.clock c.make_all.new.log) setting progress)
+    c.in-Err-make_all.is (c.make_all.ensures.made origin setting progress w))
+
+pub returns-in-Ok-make_all-clause-leaves : goal.returns-in-Ok-make_all-clause-leaves
+returns-in-Ok-make_all-clause-leaves g c = leaves-charged c.in-Ok.left c.make_all.ensures.leaves
 
 pub returns-in-Err-clause-ran : goal.returns-in-Err-clause-ran
 returns-in-Err-clause-ran g c = λ origin setting progress w.
-    let seen = same_seen w.transaction c.args.viewer.now.tables.now progress refl in
+    let same = effect-same w c.args.viewer.now.tables.now c.args.statement.now in
     elim c.in-Err.ensures.err [
       | inl e ↦ subst
-          (λ (meant : Result (List Change) Refusal).
+          (λ (meant : Result (List Change × Option ℕ) Refusal).
           Changes origin c.args.self.now c.args.viewer.now.session meant (Err c.in-Err.refusal) (g.L.ChangeLog.records c.args.log.now) (g.L.ChangeLog.clock c.args.log.now) setting progress)
-          (sym (ap (λ s. statement_changes s c.args.statement.now) seen ∙ e)) (inl (refl, w.transaction))
+          (sym (same ∙ e)) (inl (refl, w.transaction))
       | inr e ↦ inr (ap Err e, w.transaction)
     ]
 
