@@ -2,6 +2,7 @@
 use Rattle.std.proofs.Common.{◌≡◌, ◌∙◌, ℕ, zero, suc, ◌+◌, ◌<◌, ◌≤◌, Bool, true, false, not, ◌&&◌, nat_eq, List, [], ◌∷◌, length, inl, inr, Option, Some, None, Result, Ok, Err, refl, sym, ap, subst, eqb-true, arith, IsTrue}
 use Rattle.std.proofs.lemmas.Bool.{lt-leb}
 use Rattle.std.proofs.lemmas.List.Elements.{All-head, All-tail}
+use Rattle.sb_tenant.specs.declared.bound.Bound.{Bound}
 use Rattle.sb_value.specs.declared.refusal.Refusal.{Refusal}
 use Rattle.sb_value.specs.declared.refusal.Refusal.TheVariants as refusal
 use Rattle.sb_value.specs.Laws.{PrecedesIsClosure}
@@ -44,7 +45,7 @@ calm-of state s e o io = by (nat_eq o s) refl
 
 -- ---- a line
 
-module _ (law : PrecedesIsClosure) (free : (used : List ℕ) → IsLeastFree used (least_free used)) (first tenant bound : ℕ) where
+module _ (law : PrecedesIsClosure) (free : (used : List ℕ) → IsLeastFree used (least_free used)) (first tenant : ℕ) (bound : Bound) where
   module _ (n : Numbering) (one : State) (pairs : List (ℕ × ℕ)) (sess : ℕ → Session) (steps : ℕ) (made : IsMade tenant n one (remade n one pairs sess steps)) (s : ℕ) (is : IsTrue (is_session s)) where
     abbrev other : State
     other = remade n one pairs sess steps
@@ -94,7 +95,7 @@ module _ (law : PrecedesIsClosure) (free : (used : List ℕ) → IsLeastFree use
 not-full : (state : State) (s : ℕ) (line : List ℕ) → state.steps < trail_limit → is_full_for state s line ≡ false
 not-full state s line below = λ i. lt-leb trail_limit state.steps below i && not (is_end_of_open state s line)
 
-module _ (tenant bound : ℕ) (state : State) (s : ℕ) (line : List ℕ) (below : state.steps < trail_limit) where
+module _ (tenant : ℕ) (bound : Bound) (state : State) (s : ℕ) (line : List ℕ) (below : state.steps < trail_limit) where
   is-numbered : step tenant bound state s line ≡ numbered state (reply_to tenant bound state s line)
   is-numbered = λ i. elim (not-full state s line below i) as (λ _. State × Answer) [
     | true ↦ (state, record { number = None; reply = reply.No refusal.TrailFull })
@@ -110,7 +111,7 @@ module _ (tenant bound : ℕ) (state : State) (s : ℕ) (line : List ℕ) (below
 room : (steps more : ℕ) → steps + suc more ≤ trail_limit → steps < trail_limit
 room steps more most = omega (arith, most)
 
-pub left : (tenant bound : ℕ) (state : State) (s : ℕ) (line : List ℕ) → state.steps < trail_limit → (more : ℕ) → state.steps + suc more ≤ trail_limit →
+pub left : (tenant : ℕ) (bound : Bound) (state : State) (s : ℕ) (line : List ℕ) → state.steps < trail_limit → (more : ℕ) → state.steps + suc more ≤ trail_limit →
     (step tenant bound state s line).0.steps + more ≤ trail_limit
 left tenant bound state s line below more most =
     let one : (step tenant bound state s line).0.steps ≡ state.steps + 1 = (λ i. (state-is tenant bound state s line below i).steps) in
@@ -121,7 +122,7 @@ left tenant bound state s line below more most =
 abbrev IsOwn : ℕ × List ℕ → Type 0
 IsOwn e = IsTrue (is_session e.0)
 
-module _ (law : PrecedesIsClosure) (free : (used : List ℕ) → IsLeastFree used (least_free used)) (first second bound : ℕ) where
+module _ (law : PrecedesIsClosure) (free : (used : List ℕ) → IsLeastFree used (least_free used)) (first second : ℕ) (bound : Bound) where
   -- the state that a step leaves, as the other one numbered so
   stepped : (tenant : ℕ) (n : Numbering) (one other : State) → IsRenumbered tenant n one other → (s : ℕ) → IsTrue (is_session s) → (line : List ℕ) → other.steps < trail_limit →
       (m : Numbering) × IsRenumbered tenant m (reply_to first bound one s line).0 (step tenant bound other s line).0 × ((step tenant bound other s line).1.reply ≡ (reply_to first bound one s line).1)

@@ -3,6 +3,7 @@ use Rattle.std.proofs.Common.{◌≡◌, ◌∙◌, ℕ, zero, suc, ◌+◌, ◌
 use Rattle.std.proofs.lemmas.Bool.{or_parts}
 use Rattle.std.proofs.lemmas.List.{length-map}
 use Rattle.std.proofs.lemmas.List.Elements.{All-nil, All-cons, All-head, All-tail}
+use Rattle.sb_tenant.specs.declared.bound.Bound.{Bound}
 use Rattle.sb_value.specs.declared.value.Value.{Value}
 use Rattle.std.specs.List.{list_any}
 use Rattle.sb_value.specs.declared.lock.LockMode.{LockMode}
@@ -228,7 +229,7 @@ at_rest_by first second one other unlocked free alike = record {
 -- ---- a state that can be reached
 
 -- nothing is locked where no session has a transaction
-module _ (tenant bound : ℕ) (formed : StatesAreWellFormed tenant bound) (replays : LegalStatesAreReplayed tenant bound) (stay : OthersStay tenant bound) where
+module _ (tenant : ℕ) (bound : Bound) (formed : StatesAreWellFormed tenant bound) (replays : LegalStatesAreReplayed tenant bound) (stay : OthersStay tenant bound) where
   -- a session that a tenant doesn't have stays closed
   closed-after : (s : ℕ) → is_session s ≡ false → (trail : List entry.Entry) (before after state : State) → IsLegal tenant bound before trail after →
       session_at state s ≡ closed → session_at (replayed tenant bound state trail) s ≡ closed
@@ -249,7 +250,7 @@ module _ (tenant bound : ℕ) (formed : StatesAreWellFormed tenant bound) (repla
           ap (λ (x : State). has_transaction (session_at x s)) (replays trail state legal).0
           ∙ ap has_transaction (closed-after s none trail opening state opening legal refl)
 
-module _ (first second bound : ℕ) (formed : (tenant : ℕ) → StatesAreWellFormed tenant bound) (replays : (tenant : ℕ) → LegalStatesAreReplayed tenant bound) (stay : (tenant : ℕ) → OthersStay tenant bound) where
+module _ (first second : ℕ) (bound : Bound) (formed : (tenant : ℕ) → StatesAreWellFormed tenant bound) (replays : (tenant : ℕ) → LegalStatesAreReplayed tenant bound) (stay : (tenant : ℕ) → OthersStay tenant bound) where
   pub at_rest : AlikeAtRestAreAlike first second bound
   at_rest one other trail again legal made alike =
       at_rest_by first second one other

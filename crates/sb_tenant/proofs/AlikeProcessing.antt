@@ -17,15 +17,16 @@ use Rattle.sb_check.specs.declared.tree.Statement.{Statement}
 use Rattle.sb_check.specs.declared.tree.Action.{Action}
 use Rattle.sb_check.specs.declared.tree.Action.TheVariants as action
 use Rattle.sb_catalog.specs.declared.rule.Rule.{Rule}
-use Rattle.sb_eval.specs.Seen.{Seen}
-use Rattle.sb_eval.specs.Statement.{query_locks, statement_locks, condition_rows, statement_changes}
+use Rattle.sb_eval.specs.Seen.{Seen, row_count}
+use Rattle.sb_eval.specs.Work.{query_work}
+use Rattle.sb_eval.specs.Statement.{query_locks, statement_locks, condition_rows}
 use Rattle.sb_process.specs.Setting.{Setting, Progress, transition, rule_tables, is_candidate, marked, seen_with, next_rule}
-use Rattle.sb_process.specs.Consider.{with_request, with_changes, run_statement, Ending, ran, rolled_back, refused, run_actions, test_rows, test_condition, Considered, was_false, was_true, was_refused, consider}
+use Rattle.sb_process.specs.Consider.{with_request, with_effect, statement_effect, test_query, run_statement, Ending, ran, rolled_back, refused, run_actions, test_rows, test_condition, Considered, was_false, was_true, was_refused, consider}
 use Rattle.sb_process.specs.Process.{Processing, ended, after_verdict, process}
 use Rattle.sb_process.specs.declared.Outcome.TheVariants.{Done, ByRule, ByError, ByLimit}
 use Rattle.sb_tenant.specs.Alike.{HaveSamePairs}
 use Rattle.sb_tenant.specs.AlikeTenants.{Numbering, IsNumbering, renumbered_change, renumbered_entry}
-use Rattle.sb_tenant.proofs.Seeing.{map_ok, rows_same, changes_same}
+use Rattle.sb_tenant.proofs.Seeing.{map_ok, rows_same, work-both, work_of_query, effect_again, effect_same}
 use Rattle.sb_tenant.proofs.Numbered.{tables_after, numbering_after, name_after}
 use Rattle.sb_tenant.proofs.Nets.{triggered, same-tables}
 use Rattle.sb_tenant.proofs.Pairs.{chosen-same}
@@ -117,8 +118,14 @@ module _ (law : PrecedesIsClosure) (tenant : ℕ) (n : Numbering) (one : Setting
     rows : (p : Progress) (q : Query) → condition_rows (seen-again p) q ≡ condition_rows (seen p) q
     rows p q = rows_same tenant n (seen p) (seen-again p) (tables_after tenant n p.changes one.base numbering) refl refl (numbering_after n p.changes one.base numbering) q
 
-    changes : (p : Progress) (s : Statement) → statement_changes (seen-again p) s ≡ map_ok (map r) (statement_changes (seen p) s)
-    changes p s = changes_same tenant n (seen p) (seen-again p) (tables_after tenant n p.changes one.base numbering) refl refl (numbering_after n p.changes one.base numbering) s
+    abbrev effect-again : List Change × Option ℕ → List Change × Option ℕ
+    effect-again = effect_again tenant n
+
+    effects : (p : Progress) (s : Statement) → statement_effect other tables s (again p) ≡ map_ok effect-again (statement_effect one tables s p)
+    effects p s = effect_same tenant n (seen p) (seen-again p) (tables_after tenant n p.changes one.base numbering) refl refl (numbering_after n p.changes one.base numbering) one.rules s p.left
+
+    works : (p : Progress) (q : Query) → query_work (row_count (seen-again p)) q ≡ query_work (row_count (seen p)) q
+    works p q = work_of_query tenant n (seen p) (seen-again p) (tables_after tenant n p.changes one.base numbering) refl refl (numbering_after n p.changes one.base numbering) q
 
     abbrev tested-again : Bool × Progress → Bool × Progress
     tested-again t = (t.0, again t.1)
@@ -130,17 +137,20 @@ module _ (law : PrecedesIsClosure) (tenant : ℕ) (n : Numbering) (one : Setting
     condition-same : (condition : Option Query) (p : Progress) → test_condition other tables condition (again p) ≡ map_ok tested-again (test_condition one tables condition p)
     condition-same None p = refl
     condition-same (Some q) p =
-        request-same tested-again (query_locks q) p (λ x. test_rows x (condition_rows (seen x) q)) (λ x. test_rows x (condition_rows (seen_with other tables x) q))
-        (λ x. (λ i. test_rows (again x) (rows x q i)) ∙ tested x (condition_rows (seen x) q))
+        request-same tested-again (query_locks q) p (λ x. test_query (seen x) q x) (λ x. test_query (seen_with other tables x) q x)
+        (λ x.
+        work-both tested-again (query_work (row_count (seen x)) q) (query_work (row_count (seen-again x)) q) x.left (λ left. test_rows (record x { left = left }) (condition_rows (seen x) q))
+        (λ left. test_rows (record (again x) { left = left }) (condition_rows (seen-again x) q)) (works x q)
+        (λ left. (λ i. test_rows (record (again x) { left = left }) (rows x q i)) ∙ tested (record x { left = left }) (condition_rows (seen x) q)))
 
-    changed : (p : Progress) (cs : Result (List Change) Refusal) → with_changes (again p) (map_ok (map r) cs) ≡ map_ok again (with_changes p cs)
-    changed p (Ok cs) = λ i. Ok (record { changes = sym (map-append r p.changes cs) i; marks = p.marks; locks = p.locks })
+    changed : (p : Progress) (cs : Result (List Change × Option ℕ) Refusal) → with_effect (again p) (map_ok effect-again cs) ≡ map_ok again (with_effect p cs)
+    changed p (Ok effect) = λ i. Ok (record { changes = sym (map-append r p.changes effect.0) i; marks = p.marks; locks = p.locks; left = effect.1 })
     changed p (Err e) = refl
 
     statement-same : (s : Statement) (p : Progress) → run_statement other tables s (again p) ≡ map_ok again (run_statement one tables s p)
     statement-same s p =
-        request-same again (statement_locks s) p (λ x. with_changes x (statement_changes (seen x) s)) (λ x. with_changes x (statement_changes (seen_with other tables x) s))
-        (λ x. (λ i. with_changes (again x) (changes x s i)) ∙ changed x (statement_changes (seen x) s))
+        request-same again (statement_locks s) p (λ x. with_effect x (statement_effect one tables s x)) (λ x. with_effect x (statement_effect other tables s x))
+        (λ x. (λ i. with_effect (again x) (effects x s i)) ∙ changed x (statement_effect one tables s x))
 
     abbrev onward : (Progress → Ending) → Result Progress Refusal → Ending
     onward next (Err e) = refused e
@@ -179,6 +189,7 @@ module _ (law : PrecedesIsClosure) (tenant : ℕ) (n : Numbering) (one : Setting
     changes = map r p.changes;
     marks = λ id. cond (nat_eq id rule.id) (length-map p.changes r i) (p.marks id);
     locks = p.locks;
+    left = p.left;
   }
 
   consider-same : (rule : Rule) (p : Progress) → consider other rule (again p) ≡ renumbered_considered tenant n (consider one rule p)

@@ -4,6 +4,7 @@ use Rattle.std.specs.Prelude.{if◌then◌else◌, Option, None, Some, Result, I
 use Rattle.std.specs.List.{list_any}
 use Rattle.std.proofs.lemmas.Bool.{ltb-true, lt-ltb, not-false}
 use denote.Enum.Bare.{sameb}
+use Rattle.sb_tenant.specs.declared.bound.Bound.{Bound}
 use Rattle.sb_tenant.specs.contracts.phase.Phase.{the_type}
 use Rattle.sb_value.specs.declared.refusal.Refusal.{Refusal}
 use Rattle.sb_value.specs.declared.refusal.Refusal.TheVariants as refusal
@@ -185,17 +186,17 @@ module _ {store : Store} {records : List Record} {clock : ℕ} {index : List (Li
     refusal_in : (o : Option Refusal) → o ≡ phase_refusal class store.phases s → session_refusal (class_of command) state s ≡ o
     refusal_in o e = ap (λ (k : Class). session_refusal k state s) (sym is) ∙ sym (refusal_is store.phases state h.0.1.phases class s (eighth s n same below)) ∙ sym e
 
-    pub refused_command : (tenant bound : ℕ) {r : Refusal} {got : Reply} → Some r ≡ phase_refusal class store.phases s → got ≡ reply.No r → Performs store records clock index state s (reply_to_command tenant bound state s command) got
+    pub refused_command : (tenant : ℕ) (bound : Bound) {r : Refusal} {got : Reply} → Some r ≡ phase_refusal class store.phases s → got ≡ reply.No r → Performs store records clock index state s (reply_to_command tenant bound state s command) got
     refused_command tenant bound {r} {got} e refused =
         subst (λ (o : Option Refusal). Performs store records clock index state s (outcome_of tenant bound state s o (walk state.catalog command)) got) (sym (refusal_in (Some r) e)) (inl (refused, h))
 
-    pub allowed_command : (tenant bound : ℕ) {new : Store} {after : List Record} {later : ℕ} {sets : List (List TableSets)} {got : Reply} → None ≡ phase_refusal class store.phases s →
+    pub allowed_command : (tenant : ℕ) (bound : Bound) {new : Store} {after : List Record} {later : ℕ} {sets : List (List TableSets)} {got : Reply} → None ≡ phase_refusal class store.phases s →
         Performs new after later sets state s (outcome_of tenant bound state s None (walk state.catalog command)) got → Performs new after later sets state s (reply_to_command tenant bound state s command) got
     allowed_command tenant bound {new} {after} {later} {sets} {got} e done =
         subst (λ (o : Option Refusal). Performs new after later sets state s (outcome_of tenant bound state s o (walk state.catalog command)) got) (sym (refusal_in None e)) done
 
 -- the command is this one
-pub performs_command : {new : Store} {records : List Record} {clock : ℕ} {index : List (List TableSets)} (state : State) (tenant bound s : ℕ) {c d : Command} {got : Reply} → c ≡ d
+pub performs_command : {new : Store} {records : List Record} {clock : ℕ} {index : List (List TableSets)} (state : State) (tenant : ℕ) (bound : Bound) (s : ℕ) {c d : Command} {got : Reply} → c ≡ d
     → Performs new records clock index state s (outcome_of tenant bound state s None (walk state.catalog d)) got → Performs new records clock index state s (outcome_of tenant bound state s None (walk state.catalog c)) got
 performs_command {new} {records} {clock} {index} state tenant bound s {c} {d} {got} e h =
     subst (λ (x : Command). Performs new records clock index state s (outcome_of tenant bound state s None (walk state.catalog x)) got) (sym e) h
@@ -211,7 +212,7 @@ leaves_defined {old} {new} d = record {
   numbers = λ k below. below_more (k + 2) (k + 32768000) new.database.tables (omega arith) (d.numbers k below);
 }
 
-abbrev replied : ℕ → ℕ → State → ℕ → Option Command → State × Reply
+abbrev replied : ℕ → Bound → State → ℕ → Option Command → State × Reply
 replied tenant bound state s o =
     elim o [
       | None ↦ (state, reply.No refusal.Syntax)
@@ -219,7 +220,7 @@ replied tenant bound state s o =
     ]
 
 -- the line is this command
-pub performs_line : (new : Store) (records : List Record) (clock : ℕ) (index : List (List TableSets)) (state : State) (tenant bound s : ℕ) (line : List ℕ) (command : Command) (got : Reply) → command_of line ≡ Some command
+pub performs_line : (new : Store) (records : List Record) (clock : ℕ) (index : List (List TableSets)) (state : State) (tenant : ℕ) (bound : Bound) (s : ℕ) (line : List ℕ) (command : Command) (got : Reply) → command_of line ≡ Some command
     → Performs new records clock index state s (reply_to_command tenant bound state s command) got → Performs new records clock index state s (reply_to tenant bound state s line) got
 performs_line new records clock index state tenant bound s line command got e h =
     subst (λ (o : Option Command). Performs new records clock index state s (replied tenant bound state s o) got) (sym e) h

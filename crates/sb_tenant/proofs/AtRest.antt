@@ -1,5 +1,5 @@
 -- A state in which no session has a transaction, with another catalog.
-use Rattle.std.proofs.Common.{◌≡◌, ◌∙◌, ℕ, false, List, [], ◌∷◌, ◌++◌, map, drop, refl, sym, ap, subst}
+use Rattle.std.proofs.Common.{None, ◌≡◌, ◌∙◌, ℕ, false, List, [], ◌∷◌, ◌++◌, map, drop, refl, sym, ap, subst}
 use Rattle.std.specs.Prelude.{IsTrue}
 use Rattle.std.proofs.Math.Seq.{drop-nil}
 use Rattle.sb_value.specs.declared.change.Change.{Change}
@@ -87,7 +87,7 @@ stands_anew old records clock before after state origin tables definitions catal
       exclusive = holds.exclusive;
       locks = holds.locks;
       phases = holds.phases;
-      candidates = λ s i. no_candidates old.database.transactions s (progress_of state s) catalog.rules (none old first state rest holds s i);
+      candidates = λ s i. no_candidates old.database.transactions s (progress_of None state s) catalog.rules (none old first state rest holds s i);
       rules = kept.rules;
       ordered = kept.ordered;
       rulesets = kept.rulesets;

@@ -1,6 +1,7 @@
 -- The calls on a session's transaction, each from what the database says of it.
 use Rattle.std.proofs.Common.{◌≡◌, ◌∙◌, ◌⊎◌, inl, inr, ℕ, ◌<◌, ◌≤◌, Bool, true, false, not, ◌&&◌, cond, nat_eq, List, [], ◌∷◌, ◌++◌, length, Option, Some, None, Result, Ok, Err, refl, sym, ap, subst, true≢false, lt-ltb, IsTrue, arith}
 use Rattle.std.proofs.lemmas.Bool.{eq-eqb}
+use Rattle.sb_tenant.specs.declared.bound.Bound.{Bound}
 use Rattle.sb_value.specs.declared.value.Value.{Value}
 use Rattle.sb_value.specs.declared.change.Change.{Change}
 use Rattle.sb_value.specs.declared.lock.LockMode.{LockMode}
@@ -17,21 +18,22 @@ use Rattle.sb_tables.specs.Held.{Held}
 use Rattle.sb_locks.specs.Held.{held}
 use Rattle.sb_index.specs.TableSets.{TableSets}
 use Rattle.sb_eval.specs.Seen.{no_transition}
-use Rattle.sb_eval.specs.Statement.{query_locks, statement_locks, select_rows, statement_changes}
+use Rattle.sb_eval.specs.Statement.{query_locks, statement_locks}
+use Rattle.sb_process.specs.Consider.{statement_effect, select_within}
 use Rattle.sb_process.specs.Made.{AreMade}
 use Rattle.sb_process.specs.Process.{Processing, process, stands_after}
 use Rattle.sb_process.specs.Represents.{Represents, EachTransaction, IsTransaction, IsTakenBack, IsKept, IsIdle, begun}
 use Rattle.sb_process.specs.Request.{IsAnswer, after_request, Selects}
 use Rattle.sb_process.specs.Setting.{Setting, Progress, seen_with}
 use Rattle.sb_process.specs.Sharing.{TablesAreShared}
-use Rattle.sb_process.specs.Statement.{changes_meant, with_changes_of, after_statement, counted, Runs}
+use Rattle.sb_process.specs.Statement.{effect_meant, with_effect_of, after_statement, counted, Runs}
 use Rattle.sb_process.specs.Transactions.{mark_of, tested_of, is_candidate_of, ArePast, OtherSessionsStay}
 use Rattle.sb_process.specs.Work.{IsWork, Processes, Stands}
 use Rattle.sb_process.specs.declared.Processed.{Processed}
 use Rattle.sb_process.specs.declared.database.Database.{Database}
 use Rattle.sb_process.specs.declared.Outcome.{Outcome}
 use Rattle.sb_process.specs.declared.Outcome.TheVariants.{Done, ByRule, ByError, ByLimit}
-use Rattle.sb_process.specs.Running.{EachRunning, IsRunning, is_done}
+use Rattle.sb_process.specs.Running.{is_done}
 use Rattle.sb_tenant.specs.declared.phase.Phase.{Phase}
 use Rattle.sb_tenant.specs.declared.phase.Phase.TheVariants.{Idle, Active}
 use Rattle.sb_tenant.specs.declared.reply.Reply.{Reply}
@@ -156,16 +158,13 @@ called old database phases id records times transactions others = record { id = 
 
 -- the session's transaction
 module _ {s : ℕ} {store : Store} {records : List Record} {clock : ℕ} {index : List (List TableSets)} {state : State} (laws : TablesAreShared) (is : IsTrue (is_session s)) (st : StandFor store records clock index state) where
-  pub session-of : Represents (base_of st.0.0 state s) store.database s records clock (setting_of store.database.id state s) (progress_of state s)
+  pub session-of : Represents (base_of st.0.0 state s) store.database s records clock (setting_of store.database.id state s) (progress_of store.database.left state s)
   session-of = one-session laws st.0.0 store state st.0.1 s is records clock index st.1
 
   pub transaction-of : IsTransaction store.database s records clock
-  transaction-of = (base_of st.0.0 state s, setting_of store.database.id state s, progress_of state s, session-of)
+  transaction-of = (base_of st.0.0 state s, setting_of store.database.id state s, progress_of store.database.left state s, session-of)
 
-  pub runs-in : IsRunning (base_of st.0.0 state s) store.database s records clock index (setting_of store.database.id state s) (progress_of state s)
-  runs-in = record { transaction = session-of; indexed = st.1.indexed }
-
-  pub works-in : IsWork (base_of st.0.0 state s) store.database s records clock index store.definitions.rules store.definitions.order (setting_of store.database.id state s) (progress_of state s)
+  pub works-in : IsWork (base_of st.0.0 state s) store.database s records clock index store.definitions.rules store.definitions.order (setting_of store.database.id state s) (progress_of store.database.left state s)
   works-in = work-of laws st.0.0 store state st.0.1 s is records clock index st.1
 
 module _ {s : ℕ} {old new : Store} {earlier after : List Record} {clock later : ℕ} {index : List (List TableSets)} {state : State} {origin : List Held} (laws : TablesAreShared) (is : IsTrue (is_session s)) (h : Holds origin old state)
@@ -177,7 +176,7 @@ module _ {s : ℕ} {old new : Store} {earlier after : List Record} {clock later 
   setting = setting_of old.database.id state s
 
   abbrev progress : Progress
-  progress = progress_of state s
+  progress = progress_of old.database.left state s
 
   pub before : Represents base old.database s earlier clock setting progress
   before = one-session laws origin old state h s is earlier clock index a
@@ -187,12 +186,12 @@ module _ {s : ℕ} {old new : Store} {earlier after : List Record} {clock later 
   after-session session locks = record { sessions = λ o other. other_session state s session o other; rules = refl; pairs = refl; rulesets = refl }
 
   -- a transaction begins
-  pub begins : phase_at old.phases s ≡ Idle → phase_at new.phases s ≡ Active → (IsIdle base old.database s earlier setting → Represents base new.database s after later setting (begun (held old.database.locks))) →
+  pub begins : phase_at old.phases s ≡ Idle → phase_at new.phases s ≡ Active → (IsIdle base old.database s earlier setting → Represents base new.database s after later setting (begun (held old.database.locks) old.database.left)) →
       StandFor new after later index (with_session state s (active [] (λ id. 0)))
   begins was phase begin =
       let none : changes_of (session_at state s) ≡ [] = none-idle (session_at state s) (sym (h.phases s is) ∙ was) in
       let same : state.locks ≡ held old.database.locks = λ i o t m. sym (h.locks o t m) i in
-      stands-with laws s is old new earlier after clock later index state (with_session state s (active [] (λ id. 0))) origin h a c (after-session (active [] (λ id. 0)) state.locks) (begun (held old.database.locks))
+      stands-with laws s is old new earlier after clock later index state (with_session state s (active [] (λ id. 0))) origin h a c (after-session (active [] (λ id. 0)) state.locks) (begun (held old.database.locks) old.database.left)
       (own_session state s (active [] (λ id. 0))) same (record { others = λ o t m other. h.locks o t m; exclusive = subst AreExclusive same h.exclusive }) phase
       (begin (record { who = refl; none = before.changes ∙ none; base = before.base; made = subst (λ cs. AreMade base cs old.database.tables) none before.made })) refl
 
@@ -259,12 +258,16 @@ module _ {s : ℕ} {old new : Store} {earlier after : List Record} {clock later 
       comes-answer form meant r result S T (inl e) (inr x) m f = comes-memory form (StandFor new after later index) meant result x.0
       comes-answer form meant r result S T (inr e) x m f = comes-memory form (StandFor new after later index) meant result e
 
-      pub selects : (bound : ℕ) (q : Query) (result : Result (List (List Value)) Refusal) → Selects base new.database s q result after later setting progress →
-          Comes reply.Rows (StandFor new after later index) (perform old.database.id bound state s (query q)) result
-      selects bound q result k = by (first_conflict state.locks s (query_locks q)) refl k.answer k.stands
+      -- with what is left of the budget as the step's
+      abbrev bound_here : ℕ → Bound
+      bound_here considerations = record { considerations = considerations; work = old.database.left }
+
+      pub selects : (considerations : ℕ) (q : Query) (result : Result (List (List Value)) Refusal) → Selects base new.database s q result after later setting progress →
+          Comes reply.Rows (StandFor new after later index) (perform old.database.id (bound_here considerations) state s (query q)) result
+      selects considerations q result k = by (first_conflict state.locks s (query_locks q)) refl k.answer k.stands
         where
           by : (o : Option ℕ) → first_conflict state.locks s (query_locks q) ≡ o →
-              IsAnswer (elim o as (λ _. Result (List (List Value)) Refusal) [ Some t ↦ Err (Locked (name_at setting.base t)) | None ↦ select_rows (seen_with setting no_transition (record progress { locks = with_locks state.locks s (query_locks q) })) q ]) result →
+              IsAnswer (elim o as (λ _. Result (List (List Value)) Refusal) [ Some t ↦ Err (Locked (name_at setting.base t)) | None ↦ select_within (seen_with setting no_transition (record progress { locks = with_locks state.locks s (query_locks q) })) q old.database.left ]) result →
               Represents base new.database s after later setting (elim o as (λ _. Progress) [ Some t ↦ progress | None ↦ record progress { locks = with_locks state.locks s (query_locks q) } ])
               ⊎ ((result ≡ Err NoMemory) × Represents base new.database s after later setting progress) →
               Comes reply.Rows (StandFor new after later index)
@@ -272,7 +275,7 @@ module _ {s : ℕ} {old new : Store} {earlier after : List Record} {clock later 
                 | Some t ↦ (state, reply.No (Locked (name_at state.catalog.tables t)))
                 | None ↦ (
                   with_progress state s (record progress { locks = with_locks state.locks s (query_locks q) }),
-                  reply_rows (select_rows (seen_with setting no_transition (record progress { locks = with_locks state.locks s (query_locks q) })) q),
+                  reply_rows (select_within (seen_with setting no_transition (record progress { locks = with_locks state.locks s (query_locks q) })) q old.database.left),
                 )
               ])
               result
@@ -280,8 +283,8 @@ module _ {s : ℕ} {old new : Store} {earlier after : List Record} {clock later 
               comes-answer reply.Rows (state, reply.No (Locked (name_at state.catalog.tables t))) (Err (Locked (name_at setting.base t))) result _ _ answer stands
               (ap (λ (n : List ℕ). reply.No (Locked n)) (sym (name-after_all (others_of state s) state.catalog.tables t))) goes-same
           by None e answer stands =
-              comes-answer reply.Rows _ (select_rows (seen_with setting no_transition (record progress { locks = with_locks state.locks s (query_locks q) })) q) result _ _ answer stands
-              (rows-meant (select_rows (seen_with setting no_transition (record progress { locks = with_locks state.locks s (query_locks q) })) q))
+              comes-answer reply.Rows _ (select_within (seen_with setting no_transition (record progress { locks = with_locks state.locks s (query_locks q) })) q old.database.left) result _ _ answer stands
+              (rows-meant (select_within (seen_with setting no_transition (record progress { locks = with_locks state.locks s (query_locks q) })) q old.database.left))
               (goes-with (record progress { locks = with_locks state.locks s (query_locks q) }) (taken-granted (query_locks q) e))
 
       pub selects-aside : (q : Query) (result : Result (List (List Value)) Refusal) → Selects base new.database s q result after later setting progress → StandAside new after later index state s
@@ -293,35 +296,35 @@ module _ {s : ℕ} {old new : Store} {earlier after : List Record} {clock later 
 
       -- ---- a change
 
-      counts-seen : (p : Progress) → Taken s state.locks p.locks → (meant : Result (List Change) Refusal) (result : Result ℕ Refusal) → result ≡ counted meant →
-          Represents base new.database s after later setting (with_changes_of meant p) → Comes reply.Count (StandFor new after later index) (change_seen state s p meant) result
+      counts-seen : (p : Progress) → Taken s state.locks p.locks → (meant : Result (List Change × Option ℕ) Refusal) (result : Result ℕ Refusal) → result ≡ counted meant →
+          Represents base new.database s after later setting (with_effect_of meant p) → Comes reply.Count (StandFor new after later index) (change_seen state s p meant) result
       counts-seen p k (Err f) result e r = comes-meant reply.Count (StandFor new after later index) (with_progress state s p, reply.No f) (Err f) result e refl (goes-with p k r)
-      counts-seen p k (Ok changes) result e r =
-          comes-meant reply.Count (StandFor new after later index) (with_progress state s (record p { changes = p.changes ++ changes }), reply.Count (length changes)) (Ok (length changes)) result e refl
-          (goes-with (record p { changes = p.changes ++ changes }) k r)
+      counts-seen p k (Ok effect) result e r =
+          comes-meant reply.Count (StandFor new after later index) (with_progress state s (record p { changes = p.changes ++ effect.0 }), reply.Count (length effect.0)) (Ok (length effect.0)) result e refl
+          (goes-with (record p { changes = p.changes ++ effect.0; left = effect.1 }) k r)
 
-      pub counts : (bound : ℕ) (statement : Statement) (result : Result ℕ Refusal) → Runs base new.database s no_transition statement result after later setting progress →
-          Comes reply.Count (StandFor new after later index) (perform old.database.id bound state s (change statement)) result
-      counts bound statement result (inr k) = comes-memory reply.Count (StandFor new after later index) (perform old.database.id bound state s (change statement)) result k.0
-      counts bound statement result (inl k) = by (first_conflict state.locks s (statement_locks statement)) refl k.0 k.1
+      pub counts : (considerations : ℕ) (statement : Statement) (result : Result ℕ Refusal) → Runs base new.database s no_transition statement result after later setting progress →
+          Comes reply.Count (StandFor new after later index) (perform old.database.id (bound_here considerations) state s (change statement)) result
+      counts considerations statement result (inr k) = comes-memory reply.Count (StandFor new after later index) (perform old.database.id (bound_here considerations) state s (change statement)) result k.0
+      counts considerations statement result (inl k) = by (first_conflict state.locks s (statement_locks statement)) refl k.0 k.1
         where
           by : (o : Option ℕ) → first_conflict state.locks s (statement_locks statement) ≡ o →
-              result ≡ counted (elim o as (λ _. Result (List Change) Refusal) [
+              result ≡ counted (elim o as (λ _. Result (List Change × Option ℕ) Refusal) [
                 | Some t ↦ Err (Locked (name_at setting.base t))
-                | None ↦ statement_changes (seen_with setting no_transition (record progress { locks = with_locks state.locks s (statement_locks statement) })) statement
+                | None ↦ statement_effect setting no_transition statement (record progress { locks = with_locks state.locks s (statement_locks statement) })
               ]) →
               Represents base new.database s after later setting
-              (with_changes_of
-              (elim o as (λ _. Result (List Change) Refusal) [
+              (with_effect_of
+              (elim o as (λ _. Result (List Change × Option ℕ) Refusal) [
                 | Some t ↦ Err (Locked (name_at setting.base t))
-                | None ↦ statement_changes (seen_with setting no_transition (record progress { locks = with_locks state.locks s (statement_locks statement) })) statement
+                | None ↦ statement_effect setting no_transition statement (record progress { locks = with_locks state.locks s (statement_locks statement) })
               ])
               (elim o as (λ _. Progress) [ Some t ↦ progress | None ↦ record progress { locks = with_locks state.locks s (statement_locks statement) } ])) →
               Comes reply.Count (StandFor new after later index)
               (elim o as (λ _. State × Reply) [
                 | Some t ↦ (state, reply.No (Locked (name_at state.catalog.tables t)))
                 | None ↦ change_seen state s (record progress { locks = with_locks state.locks s (statement_locks statement) })
-                    (statement_changes (seen_with setting no_transition (record progress { locks = with_locks state.locks s (statement_locks statement) })) statement)
+                    (statement_effect setting no_transition statement (record progress { locks = with_locks state.locks s (statement_locks statement) }))
               ])
               result
           by (Some t) e is r =
@@ -329,16 +332,16 @@ module _ {s : ℕ} {old new : Store} {earlier after : List Record} {clock later 
               (ap (λ (n : List ℕ). reply.No (Locked n)) (sym (name-after_all (others_of state s) state.catalog.tables t))) (goes-same r)
           by None e is r =
               counts-seen (record progress { locks = with_locks state.locks s (statement_locks statement) }) (taken-granted (statement_locks statement) e)
-              (statement_changes (seen_with setting no_transition (record progress { locks = with_locks state.locks s (statement_locks statement) })) statement) result is r
+              (statement_effect setting no_transition statement (record progress { locks = with_locks state.locks s (statement_locks statement) })) result is r
 
-      taken-changes : (meant : Result (List Change) Refusal) (p : Progress) → Taken s state.locks p.locks → Taken s state.locks (with_changes_of meant p).locks
-      taken-changes (Ok changes) p k = k
+      taken-changes : (meant : Result (List Change × Option ℕ) Refusal) (p : Progress) → Taken s state.locks p.locks → Taken s state.locks (with_effect_of meant p).locks
+      taken-changes (Ok effect) p k = k
       taken-changes (Err f) p k = k
 
       pub counts-aside : (statement : Statement) (result : Result ℕ Refusal) → Runs base new.database s no_transition statement result after later setting progress → StandAside new after later index state s
       counts-aside statement result (inl k) =
           aside (after_statement setting no_transition statement progress)
-          (taken-changes (changes_meant setting no_transition statement progress) (after_request setting (statement_locks statement) progress) (taken-after (statement_locks statement))) k.1
+          (taken-changes (effect_meant setting no_transition statement progress) (after_request setting (statement_locks statement) progress) (taken-after (statement_locks statement))) k.1
       counts-aside statement result (inr k) = by k.1
         where
           by : Represents base new.database s after later setting (after_request setting (statement_locks statement) progress) ⊎ Represents base new.database s after later setting progress → StandAside new after later index state s
@@ -381,11 +384,13 @@ locks-alone old database only =
 module _ {s : ℕ} {old : Store} {database : Database} {records : List Record} {clock : ℕ} {index : List (List TableSets)} {state : State} (laws : TablesAreShared) (is : IsTrue (is_session s)) (st : StandFor old records clock index state)
     (only : database ≡ record old.database { locks = database.locks }) (was : phase_at old.phases s ≡ Active) {q : Query} {result : Result (List (List Value)) Refusal}
     (k : EachTransaction old.database s records clock (λ origin setting progress. Selects origin database s q result records clock setting progress)) where
-  selected : Selects (base_of st.0.0 state s) database s q result records clock (setting_of old.database.id state s) (progress_of state s)
-  selected = k (base_of st.0.0 state s) (setting_of old.database.id state s) (progress_of state s) (session-of laws is st)
+  selected : Selects (base_of st.0.0 state s) database s q result records clock (setting_of old.database.id state s) (progress_of old.database.left state s)
+  selected = k (base_of st.0.0 state s) (setting_of old.database.id state s) (progress_of old.database.left state s) (session-of laws is st)
 
-  pub rows-come : (bound : ℕ) → Comes reply.Rows (StandFor (record old { database = database }) records clock index) (perform old.database.id bound state s (query q)) result
-  rows-come bound = selects laws is st.0.1 st.1 (locks-alone old database only) was was bound q result selected
+  pub rows-come : (bound : Bound) → old.database.left ≡ bound.work → Comes reply.Rows (StandFor (record old { database = database }) records clock index) (perform old.database.id bound state s (query q)) result
+  rows-come bound left =
+      subst (λ (l : Option ℕ). Comes reply.Rows (StandFor (record old { database = database }) records clock index) (perform old.database.id (record { considerations = bound.considerations; work = l }) state s (query q)) result) left
+      (selects laws is st.0.1 st.1 (locks-alone old database only) was was bound.considerations q result selected)
 
   pub rows-aside : StandAside (record old { database = database }) records clock index state s
   rows-aside = selects-aside laws is st.0.1 st.1 (locks-alone old database only) was was q result selected
@@ -393,38 +398,40 @@ module _ {s : ℕ} {old : Store} {database : Database} {records : List Record} {
 -- what it says of a statement
 module _ {s : ℕ} {old new : Store} {earlier after : List Record} {clock later : ℕ} {index : List (List TableSets)} {state : State} (laws : TablesAreShared) (is : IsTrue (is_session s)) (st : StandFor old earlier clock index state)
     (c : IsCallOf s old new earlier after clock later) (was : phase_at old.phases s ≡ Active) (phase : phase_at new.phases s ≡ Active) (statement : Statement) {result : Result ℕ Refusal}
-    (k : EachRunning old.database s earlier clock index (λ origin setting progress. Runs origin new.database s no_transition statement result after later setting progress)) where
-  ran : Runs (base_of st.0.0 state s) new.database s no_transition statement result after later (setting_of old.database.id state s) (progress_of state s)
-  ran = k (base_of st.0.0 state s) (setting_of old.database.id state s) (progress_of state s) (runs-in laws is st)
+    (k : (origin : List Held) (setting : Setting) (progress : Progress) → IsWork origin old.database s earlier clock index old.definitions.rules old.definitions.order setting progress → Runs origin new.database s no_transition statement result after later setting progress) where
+  ran : Runs (base_of st.0.0 state s) new.database s no_transition statement result after later (setting_of old.database.id state s) (progress_of old.database.left state s)
+  ran = k (base_of st.0.0 state s) (setting_of old.database.id state s) (progress_of old.database.left state s) (works-in laws is st)
 
-  pub count-comes : (bound : ℕ) → Comes reply.Count (StandFor new after later index) (perform old.database.id bound state s (change statement)) result
-  count-comes bound = counts laws is st.0.1 st.1 c was phase bound statement result ran
+  pub count-comes : (bound : Bound) → old.database.left ≡ bound.work → Comes reply.Count (StandFor new after later index) (perform old.database.id bound state s (change statement)) result
+  count-comes bound left =
+      subst (λ (l : Option ℕ). Comes reply.Count (StandFor new after later index) (perform old.database.id (record { considerations = bound.considerations; work = l }) state s (change statement)) result) left
+      (counts laws is st.0.1 st.1 c was phase bound.considerations statement result ran)
 
   pub count-aside : StandAside new after later index state s
   count-aside = counts-aside laws is st.0.1 st.1 c was phase statement result ran
 
-processing-takes : (tenant : ℕ) {s : ℕ} (state : State) (bound : ℕ) (eligible : ℕ → Bool) → AreExclusive state.locks → Taken s state.locks (process bound (setting_of tenant state s) eligible (progress_of state s)).progress.locks
-processing-takes tenant {s} state bound eligible exclusive = process-takes (setting_of tenant state s) state.locks bound eligible (progress_of state s) (taken-none s state.locks exclusive)
+processing-takes : (tenant : ℕ) {s : ℕ} (state : State) (considerations : ℕ) (left : Option ℕ) (eligible : ℕ → Bool) → AreExclusive state.locks → Taken s state.locks (process considerations (setting_of tenant state s) eligible (progress_of left state s)).progress.locks
+processing-takes tenant {s} state considerations left eligible exclusive = process-takes (setting_of tenant state s) state.locks considerations eligible (progress_of left state s) (taken-none s state.locks exclusive)
 
 -- what the database says of an assertion point
 module _ {s : ℕ} {old new : Store} {earlier after : List Record} {clock later : ℕ} {index : List (List TableSets)} {state : State} (laws : TablesAreShared) (is : IsTrue (is_session s)) (st : StandFor old earlier clock index state)
-    (c : IsCallOf s old new earlier after clock later) (was : phase_at old.phases s ≡ Active) (bound : ℕ) (eligible : ℕ → Bool) {o : Outcome} {verdicts : List (ℕ × Verdict)}
-    (k : Processes (base_of st.0.0 state s) old.database new.database s o verdicts after later (setting_of old.database.id state s) (progress_of state s) (process bound (setting_of old.database.id state s) eligible (progress_of state s))) where
-  pub processed-done : is_done o ≡ true → phase_at new.phases s ≡ Active → StandFor new after later index (process_at old.database.id bound state s eligible stays).0 × StandAside new after later index state s
+    (c : IsCallOf s old new earlier after clock later) (was : phase_at old.phases s ≡ Active) (considerations : ℕ) (eligible : ℕ → Bool) {o : Outcome} {verdicts : List (ℕ × Verdict)}
+    (k : Processes (base_of st.0.0 state s) old.database new.database s o verdicts after later (setting_of old.database.id state s) (progress_of old.database.left state s) (process considerations (setting_of old.database.id state s) eligible (progress_of old.database.left state s))) where
+  pub processed-done : is_done o ≡ true → phase_at new.phases s ≡ Active → StandFor new after later index (process_at old.database.id (record { considerations = considerations; work = old.database.left }) state s eligible stays).0 × StandAside new after later index state s
   processed-done done phase =
-      let meant : Processing = process bound (setting_of old.database.id state s) eligible (progress_of state s) in
-      done-stands laws is st.0.1 st.1 c was meant.outcome meant.progress (processing-takes old.database.id state bound eligible st.0.1.exclusive) (sym (ap is_done k.outcome) ∙ done) phase k.stands
+      let meant : Processing = process considerations (setting_of old.database.id state s) eligible (progress_of old.database.left state s) in
+      done-stands laws is st.0.1 st.1 c was meant.outcome meant.progress (processing-takes old.database.id state considerations old.database.left eligible st.0.1.exclusive) (sym (ap is_done k.outcome) ∙ done) phase k.stands
 
-  pub processed-back : is_done o ≡ false → phase_at new.phases s ≡ Idle → ArePast new.database.transactions s later → StandFor new after later index (process_at old.database.id bound state s eligible stays).0 × StandAside new after later index state s
+  pub processed-back : is_done o ≡ false → phase_at new.phases s ≡ Idle → ArePast new.database.transactions s later → StandFor new after later index (process_at old.database.id (record { considerations = considerations; work = old.database.left }) state s eligible stays).0 × StandAside new after later index state s
   processed-back back phase past =
-      let meant : Processing = process bound (setting_of old.database.id state s) eligible (progress_of state s) in
-      back-stands laws is st.0.1 st.1 c was meant.outcome meant.progress (processing-takes old.database.id state bound eligible st.0.1.exclusive) (sym (ap is_done k.outcome) ∙ back) phase past k.stands
+      let meant : Processing = process considerations (setting_of old.database.id state s) eligible (progress_of old.database.left state s) in
+      back-stands laws is st.0.1 st.1 c was meant.outcome meant.progress (processing-takes old.database.id state considerations old.database.left eligible st.0.1.exclusive) (sym (ap is_done k.outcome) ∙ back) phase past k.stands
 
   -- the same is found with equal flags
-  pub finds-with : {chosen : ℕ → Bool} (found : Processed) → found.outcome ≡ o → found.trace ≡ verdicts → ((id : ℕ) → eligible id ≡ chosen id) → StandFor new after later index (process_at old.database.id bound state s eligible stays).0 →
-      Finds old.database.id new after later index state s bound chosen found
+  pub finds-with : {chosen : ℕ → Bool} (found : Processed) → found.outcome ≡ o → found.trace ≡ verdicts → ((id : ℕ) → eligible id ≡ chosen id) → StandFor new after later index (process_at old.database.id (record { considerations = considerations; work = old.database.left }) state s eligible stays).0 →
+      Finds old.database.id new after later index state s (record { considerations = considerations; work = old.database.left }) chosen found
   finds-with found outcome trace flags stands =
-      subst (λ (f : ℕ → Bool). Finds old.database.id new after later index state s bound f found) (λ i id. flags id i) (record { outcome = outcome ∙ k.outcome; trace = trace ∙ k.trace; stands = stands })
+      subst (λ (f : ℕ → Bool). Finds old.database.id new after later index state s (record { considerations = considerations; work = old.database.left }) f found) (λ i id. flags id i) (record { outcome = outcome ∙ k.outcome; trace = trace ∙ k.trace; stands = stands })
 
 -- ---- the end of a transaction
 
@@ -437,7 +444,7 @@ module _ {s : ℕ} {old : Store} (database : Database) (phases : List Phase) {ea
   call : database.id ≡ old.database.id → OtherSessionsStay old.database.transactions database.transactions s → IsCallOf s old (record old { database = database; phases = phases }) earlier after clock later
   call id sessions = called old database phases id others (omega (arith, still)) sessions (set-other old.phases phases s Idle set)
 
-  pub concludes : (ending : Ending) → IsConcluded ending (base_of st.0.0 state s) old.database database s after (setting_of old.database.id state s) (progress_of state s) → StandFor (record old { database = database; phases = phases }) after later index (concluded ending state s)
+  pub concludes : (ending : Ending) → IsConcluded ending (base_of st.0.0 state s) old.database database s after (setting_of old.database.id state s) (progress_of old.database.left state s) → StandFor (record old { database = database; phases = phases }) after later index (concluded ending state s)
   concludes Keep b = goes-in laws is st.0.1 st.1 (call b.id b.sessions) (set-own old.phases phases s Idle set) past b
   concludes TakeBack b = goes-back laws is st.0.1 st.1 (call b.id b.sessions) (set-own old.phases phases s Idle set) past b
 

@@ -1,6 +1,7 @@
 -- What a command that defines something leaves.
 use Rattle.std.proofs.Common.{◌≡◌, ◌∙◌, ◌⊎◌, ℕ, ◌+◌, Bool, true, false, not, cond, nat_eq, List, [], ◌∷◌, ◌++◌, refl, sym, ap, subst, arith, inl, inr}
 use Rattle.std.specs.Prelude.{None, Result, Ok, Err}
+use Rattle.sb_tenant.specs.declared.bound.Bound.{Bound}
 use Rattle.sb_value.specs.declared.refusal.Refusal.{Refusal}
 use Rattle.sb_value.specs.declared.refusal.Refusal.TheVariants.{NoMemory}
 use Rattle.sb_syntax.specs.Tree.{Command}
@@ -42,7 +43,7 @@ fewer_below n id (t ∷ tables) h = by (nat_eq t.id id) (fewer_below n id tables
 -- ---- refused, and done
 
 -- what is meant, by what the walk gives
-abbrev Meant : ℕ → ℕ → State → ℕ → Result Resolved Refusal → State × Reply
+abbrev Meant : ℕ → Bound → State → ℕ → Result Resolved Refusal → State × Reply
 Meant tenant bound state s walked = outcome_of tenant bound state s None walked
 
 -- the index has the same active rules
@@ -66,7 +67,7 @@ module _ (command : Command) where
     others = others;
   }
     where
-      by : (records : List Record) (clock : ℕ) (state : State) (tenant bound s : ℕ) → StandFor store records clock after state → (walk state.catalog command ≡ Err e) ⊎ (e ≡ NoMemory)
+      by : (records : List Record) (clock : ℕ) (state : State) (tenant : ℕ) (bound : Bound) (s : ℕ) → StandFor store records clock after state → (walk state.catalog command ≡ Err e) ⊎ (e ≡ NoMemory)
           → IsDone store records clock after state (defining tenant bound state s command) (Err e)
       by records clock state tenant bound s h (inl w) =
           let P : Result Resolved Refusal → Type 0 = λ r. IsDone store records clock after state (Meant tenant bound state s r) (Err e) in
@@ -84,10 +85,10 @@ module _ (command : Command) where
     pub resolved : Resolved
     pub catalog : Catalog
     pub walked : walk state.catalog command ≡ Ok resolved
-    pub performed : (tenant bound s : ℕ) → perform tenant bound state s resolved ≡ (record state { catalog = catalog }, reply.Ok)
+    pub performed : (tenant : ℕ) (bound : Bound) (s : ℕ) → perform tenant bound state s resolved ≡ (record state { catalog = catalog }, reply.Ok)
     pub stands : StandFor new records clock after (record state { catalog = catalog })
 
-  pub is_done : (new : Store) (records : List Record) (clock : ℕ) (before after : List (List TableSets)) (state : State) (tenant bound s : ℕ) → IsPerformed new records clock after state
+  pub is_done : (new : Store) (records : List Record) (clock : ℕ) (before after : List (List TableSets)) (state : State) (tenant : ℕ) (bound : Bound) (s : ℕ) → IsPerformed new records clock after state
       → IsDone new records clock after state (defining tenant bound state s command) (Ok tt)
   is_done new records clock before after state tenant bound s p =
       let P : State × Reply → Type 0 = λ meant. IsDone new records clock after state meant (Ok tt) in

@@ -15,7 +15,7 @@ use Rattle.sb_tenant.specs.State.{State, idle, opening, session_at, has_transact
 use Rattle.sb_tenant.specs.Limits.{trail_limit}
 use Rattle.sb_tenant.specs.Step.{step}
 use Rattle.sb_tenant.specs.Trail.{entry_of, state_of}
-use Rattle.sb_tenant.proofs.Script.{replies, replies_in_sessions, row, t, h, a, integer_column, named, number, source, a_of, show, insert, b, aliased, plus_one, start, no}
+use Rattle.sb_tenant.proofs.Script.{most, replies, replies_in_sessions, row, t, h, a, integer_column, named, number, source, a_of, show, insert, b, aliased, plus_one, start, no}
 
 -- ---- limits of the catalog
 
@@ -72,7 +72,7 @@ abbrev full : State
 full = record (with_session opening 0 idle) { steps = trail_limit }
 
 abbrev answer_to : State → List ℕ → Answer
-answer_to state line = (step 0 1000 state 0 line).1
+answer_to state line = (step 0 (most 1000) state 0 line).1
 
 abbrev refused_by_full : Answer
 refused_by_full = record { number = None; reply = no refusal.TrailFull }
@@ -87,7 +87,7 @@ pub full_trail_ends_the_session : answer_to full (codes "end") ≡ record { numb
 unfolding command_of
 full_trail_ends_the_session = refl
 
-pub full_trail_refuses_end_of_closed : answer_to (step 0 1000 full 0 (codes "end")).0 (codes "end") ≡ refused_by_full
+pub full_trail_refuses_end_of_closed : answer_to (step 0 (most 1000) full 0 (codes "end")).0 (codes "end") ≡ refused_by_full
 unfolding command_of
 full_trail_refuses_end_of_closed = refl
 
@@ -99,7 +99,7 @@ entries = entry_of 0 (codes "open") reply.Ok ∷ entry_of 0 (codes "create table
 
 -- after an aborted insert
 abbrev aborted : State
-aborted = state_of 0 1000 entries
+aborted = state_of 0 (most 1000) entries
 
 pub abort_ends_the_transaction : has_transaction (session_at aborted 0) ≡ false
 unfolding command_of

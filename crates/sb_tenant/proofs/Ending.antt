@@ -1,6 +1,7 @@
 -- When a session ends: its `end` is answered `ok`, and no other line closes it.
 use Rattle.std.proofs.Common.{◌≡◌, ℕ, ◌+◌, Bool, true, false, ◌&&◌, not, Option, Some, None, refl, sym, ap, ◌∙◌, inl, inr}
 use Rattle.std.proofs.lemmas.Bool.{true≢false}
+use Rattle.sb_tenant.specs.declared.bound.Bound.{Bound}
 use Rattle.sb_value.specs.declared.refusal.Refusal.TheVariants as refusal
 use Rattle.sb_syntax.specs.Text.{command_of}
 use Rattle.sb_syntax.specs.Tree.{Command, open_session, end_session, begin, commit, rollback, process_rules, process_ruleset, process_rule, create_table, drop_table, create_rule, alter_rule, drop_rule, activate_rule, deactivate_rule, create_ruleset, drop_ruleset, add_rules, del_rules, query, change}
@@ -62,7 +63,7 @@ no_memory_is_not_ok (ByError name r trace) h = refl
 no_memory_is_not_ok (ByLimit trace) h = refl
 no_memory_is_not_ok (No r) h = refl
 
-module _ (tenant bound : ℕ) where
+module _ (tenant : ℕ) (bound : Bound) where
   end_is_ok : (state : State) (s : ℕ) → is_open (session_at state s) ≡ true → (reply_to_command tenant bound state s end_session).1 ≡ Ok
   end_is_ok state s up = ap (λ (b : Bool). (outcome_of tenant bound state s (first_of (not b) refusal.NotOpen None) (walk state.catalog end_session)).1) up
 

@@ -1,6 +1,7 @@
 -- A trail goes on by a step, or by an abort.
 use Rattle.std.proofs.Common.{◌≡◌, ℕ, ◌+◌, Bool, true, false, List, [], ◌∷◌, ◌++◌, length, Some, None, inl, inr, IsTrue, refl, sym, ◌∙◌, ap, arith, length-append}
 use Rattle.std.proofs.lemmas.Bool.{true≢false}
+use Rattle.sb_tenant.specs.declared.bound.Bound.{Bound}
 use Rattle.sb_value.specs.declared.refusal.Refusal.TheVariants as refusal
 use Rattle.sb_tenant.specs.declared.reply.Answer.{Answer}
 use Rattle.sb_tenant.specs.declared.reply.Entry.{Entry}
@@ -13,7 +14,7 @@ use Rattle.sb_tenant.specs.Trail.{after_abort, is_no_memory, IsNext, state_of, I
 use Rattle.sb_tenant.proofs.MemoryLaws.{fine-step}
 use Rattle.sb_tenant.proofs.ReplayLaws.{next_after, legal_steps, state_of-one_more, trail-one_more}
 
-module _ (tenant bound : ℕ) where
+module _ (tenant : ℕ) (bound : Bound) where
   -- where the trail has a place, a step is numbered
   pub step-numbered : (state : State) (s : ℕ) (line : List ℕ) → is_full_for state s line ≡ false → step tenant bound state s line ≡ numbered state (reply_to tenant bound state s line)
   step-numbered state s line room = λ i. placed (room i)

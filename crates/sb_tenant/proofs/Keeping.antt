@@ -2,6 +2,7 @@
 use Rattle.std.proofs.Common.{◌≡◌, ℕ, zero, suc, Bool, true, false, cond, nat_eq, List, [], ◌∷◌, ◌++◌, Option, Some, None, Result, Ok, Err, refl, subst, IsTrue}
 use Rattle.std.specs.Prelude.{find, option_and_then}
 use Rattle.std.proofs.lemmas.Option.{none-some}
+use Rattle.sb_tenant.specs.declared.bound.Bound.{Bound}
 use Rattle.sb_value.specs.declared.value.Value.{Value}
 use Rattle.sb_value.specs.declared.change.Change.{Change}
 use Rattle.sb_value.specs.declared.net.Transition.{Transition}
@@ -18,9 +19,11 @@ use Rattle.sb_check.specs.declared.tree.Action.{Action}
 use Rattle.sb_check.specs.declared.tree.Action.TheVariants as action
 use Rattle.sb_catalog.specs.declared.rule.Rule.{Rule}
 use Rattle.sb_eval.specs.Statement.{query_locks, statement_locks, condition_rows, statement_changes}
+use Rattle.sb_eval.specs.Seen.{row_count}
 use Rattle.sb_eval.specs.Target.{target}
+use Rattle.sb_eval.specs.Work.{query_work}
 use Rattle.sb_process.specs.declared.Outcome.TheVariants.{Done, ByRule, ByError, ByLimit}
-use Rattle.sb_process.specs.Consider.{with_request, with_changes, run_statement, Ending, ran, rolled_back, refused, run_actions, test_rows, test_condition, Considered, was_false, was_true, was_refused, consider}
+use Rattle.sb_process.specs.Consider.{with_request, with_effect, statement_effect, test_query, run_statement, Ending, ran, rolled_back, refused, run_actions, test_rows, test_condition, Considered, was_false, was_true, was_refused, consider}
 use Rattle.sb_process.specs.Process.{Processing, ended, after_verdict, process}
 use Rattle.sb_process.specs.Setting.{Setting, Progress, next_rule, rule_tables, marked, seen_with}
 use Rattle.sb_value.specs.declared.refusal.Refusal.TheVariants as refusal
@@ -28,6 +31,7 @@ use Rattle.sb_tenant.specs.declared.reply.Answer.{Answer}
 use Rattle.sb_tenant.specs.declared.reply.Reply.TheVariants as reply
 use Rattle.sb_tenant.specs.State.{State}
 use Rattle.sb_tenant.specs.Step.{is_full_for, numbered, reply_to, step}
+use Rattle.sb_tenant.proofs.Charging.{effect-changes, with-each}
 use Rattle.sb_tenant.proofs.Targets.{target-asked}
 
 -- each statement of the rules passes
@@ -69,12 +73,13 @@ abbrev pub OkIn : {A : Type 0} → (A → Type 0) → Result A Refusal → Type 
 OkIn K (Ok x) = K x
 OkIn K (Err refusal) = Unit {0}
 
--- a property of the progress that requests, marks and the changes of good statements keep
+-- a property of the progress that requests, marks, the changes of good statements and the budget keep
 pub record IsKept (setting : Setting) (Good : Statement → Type 0) (Keeps : Progress → Type 0) : Type 0 where
   pub mark : (rule : Rule) (p : Progress) → Keeps p → Keeps (marked rule p)
   pub request : (list : List (ℕ × LockMode)) (p : Progress) → first_conflict p.locks setting.who.session list ≡ None → Keeps p → Keeps (record p { locks = with_locks p.locks setting.who.session list })
   pub change : (tables : Transition) (statement : Statement) (p : Progress) (changes : List Change) → Good statement → IsTrue (p.locks setting.who.session (target statement) Write) → Keeps p →
       statement_changes (seen_with setting tables p) statement ≡ Ok changes → Keeps (record p { changes = p.changes ++ changes })
+  pub left : (left : Option ℕ) (p : Progress) → Keeps p → Keeps (record p { left = left })
 
 module _ (setting : Setting) (Good : Statement → Type 0) (Keeps : Progress → Type 0) (kept : IsKept setting Good Keeps) where
   request-keeps : {A : Type 0} (K : A → Type 0) (request : List (ℕ × LockMode)) (p : Progress) (next : Progress → Result A Refusal) → Keeps p →
@@ -87,17 +92,19 @@ module _ (setting : Setting) (Good : Statement → Type 0) (Keeps : Progress →
       by None e = f (kept.request request p e h)
 
   changes-keep : (tables : Transition) (statement : Statement) (p : Progress) → Good statement → IsTrue (p.locks setting.who.session (target statement) Write) → Keeps p →
-      OkIn Keeps (with_changes p (statement_changes (seen_with setting tables p) statement))
-  changes-keep tables statement p good asked h = by (statement_changes (seen_with setting tables p) statement) refl
+      OkIn Keeps (with_effect p (statement_effect setting tables statement p))
+  changes-keep tables statement p good asked h = by (statement_effect setting tables statement p) refl
     where
-      by : (r : Result (List Change) Refusal) → statement_changes (seen_with setting tables p) statement ≡ r → OkIn Keeps (with_changes p r)
-      by (Ok changes) e = kept.change tables statement p changes good asked h e
+      by : (r : Result (List Change × Option ℕ) Refusal) → statement_effect setting tables statement p ≡ r → OkIn Keeps (with_effect p r)
+      by (Ok effect) e =
+          kept.left effect.1 (record p { changes = p.changes ++ effect.0 })
+          (kept.change tables statement p effect.0 good asked h (effect-changes (seen_with setting tables p) setting.rules statement p.left effect e))
       by (Err refusal) e = tt
 
   statement-keeps : (tables : Transition) (statement : Statement) (p : Progress) → Good statement → Keeps p → OkIn Keeps (run_statement setting tables statement p)
   statement-keeps tables statement p good h =
       let q : Progress = record p { locks = with_locks p.locks setting.who.session (statement_locks statement) } in
-      request-keeps Keeps (statement_locks statement) p (λ q. with_changes q (statement_changes (seen_with setting tables q) statement)) h
+      request-keeps Keeps (statement_locks statement) p (λ q. with_effect q (statement_effect setting tables statement q)) h
       (λ k. changes-keep tables statement q good (target-asked p.locks setting.who.session statement) k)
 
   abbrev EndIn : Ending → Type 0
@@ -124,8 +131,10 @@ module _ (setting : Setting) (Good : Statement → Type 0) (Keeps : Progress →
   test-keeps tables None p h = h
   test-keeps tables (Some q) p h =
       let x : Progress = record p { locks = with_locks p.locks setting.who.session (query_locks q) } in
-      request-keeps (λ (t : Bool × Progress). Keeps t.1) (query_locks q) p (λ x. test_rows x (condition_rows (seen_with setting tables x) q)) h
-      (λ k. rows-keep x (condition_rows (seen_with setting tables x) q) k)
+      request-keeps (λ (t : Bool × Progress). Keeps t.1) (query_locks q) p (λ x. test_query (seen_with setting tables x) q x) h
+      (λ k.
+      with-each (query_work (row_count (seen_with setting tables x)) q) (λ left. test_rows (record x { left = left }) (condition_rows (seen_with setting tables x) q)) (OkIn (λ (t : Bool × Progress). Keeps t.1)) x.left tt
+      (λ rest. rows-keep (record x { left = rest }) (condition_rows (seen_with setting tables x) q) (kept.left rest x k)))
 
   abbrev MeantIn : Considered → Type 0
   MeantIn (was_false p) = Keeps p
@@ -187,7 +196,7 @@ module _ (setting : Setting) (Good : Statement → Type 0) (Keeps : Progress →
 -- ---- a step
 
 -- what a full trail leaves as it was holds after a step, where it holds after its reply
-pub step-keeps : (Holds : State → Type 0) (tenant bound : ℕ) (state : State) (s : ℕ) (line : List ℕ) → Holds state → Holds (numbered state (reply_to tenant bound state s line)).0 → Holds (step tenant bound state s line).0
+pub step-keeps : (Holds : State → Type 0) (tenant : ℕ) (bound : Bound) (state : State) (s : ℕ) (line : List ℕ) → Holds state → Holds (numbered state (reply_to tenant bound state s line)).0 → Holds (step tenant bound state s line).0
 step-keeps Holds tenant bound state s line same next =
     elim (is_full_for state s line) as (λ b.
     Holds (elim b as (λ _. State × Answer) [

@@ -1,5 +1,5 @@
 -- What calls leave, one after another, and the work of an assertion point.
-use Rattle.std.proofs.Common.{◌≡◌, ◌∙◌, ℕ, ◌+◌, ◌≤◌, Bool, true, false, ◌&&◌, ◌||◌, cond, nat_eq, List, [], ◌∷◌, Some, None, refl, sym, ap, subst, eqb-true, arith, IsTrue}
+use Rattle.std.proofs.Common.{Option, ◌≡◌, ◌∙◌, ℕ, ◌+◌, ◌≤◌, Bool, true, false, ◌&&◌, ◌||◌, cond, nat_eq, List, [], ◌∷◌, Some, None, refl, sym, ap, subst, eqb-true, arith, IsTrue}
 use Rattle.std.specs.List.{list_any}
 use Rattle.std.proofs.lemmas.Bool.{eq-eqb}
 use Rattle.std.proofs.lemmas.Option.{none-some}
@@ -18,7 +18,7 @@ use Rattle.sb_process.specs.declared.database.Database.{Database}
 use Rattle.sb_tenant.specs.declared.store.Store.{Store}
 use Rattle.sb_tenant.specs.Limits.{is_session}
 use Rattle.sb_tenant.specs.Logged.{Agrees, who_of}
-use Rattle.sb_tenant.specs.Represents.{Holds, Leaves}
+use Rattle.sb_tenant.specs.Represents.{Holds, Leaves, StandFor}
 use Rattle.sb_tenant.specs.State.{State, setting_of, progress_of}
 use Rattle.sb_tenant.proofs.Standing.{base_of, one-session}
 
@@ -69,11 +69,41 @@ leaves_on {n} {m} {s} {one} {two} {three} f g = record {
   numbers = λ k h. below_more (k + n + m) (k + (n + m)) three.database.tables (omega arith) (g.numbers (k + n) (f.numbers k h));
 }
 
+-- ---- the budget
+
+-- memory stands for a state whatever is left of a budget
+pub with-budget : (left : Option ℕ) {store : Store} {records : List Record} {clock : ℕ} {index : List (List TableSets)} {state : State} → StandFor store records clock index state →
+    StandFor (record store { database = record store.database { left = left } }) records clock index state
+with-budget left ((origin, h), a) = (
+  (
+    origin,
+    record {
+      committed = h.committed;
+      made = h.made;
+      locked = h.locked;
+      exclusive = h.exclusive;
+      locks = h.locks;
+      phases = h.phases;
+      candidates = h.candidates;
+      rules = h.rules;
+      ordered = h.ordered;
+      rulesets = h.rulesets;
+      runnable = h.runnable;
+    },
+  ),
+  record { transactions = a.transactions; marks = a.marks; past = a.past; untriggered = a.untriggered; indexed = a.indexed },
+)
+
+-- nor does what a call leaves
+pub leaves-budget : {left : Option ℕ} {n s : ℕ} {old new : Store} {before after : List Record} {clock later : ℕ} → Leaves n (record old { database = record old.database { left = left } }) new s before after clock later →
+    Leaves n old new s before after clock later
+leaves-budget h = record { id = h.id; others = h.others; times = h.times; numbers = h.numbers }
+
 -- ---- an assertion point
 
 pub work-of : (laws : TablesAreShared) (origin : List Held) (store : Store) (state : State) (h : Holds origin store state) (s : ℕ) (is : IsTrue (is_session s)) (records : List Record) (clock : ℕ) (index : List (List TableSets)) →
     Agrees store.database.id state store.database.transactions records clock index →
-    IsWork (base_of origin state s) store.database s records clock index store.definitions.rules store.definitions.order (setting_of store.database.id state s) (progress_of state s)
+    IsWork (base_of origin state s) store.database s records clock index store.definitions.rules store.definitions.order (setting_of store.database.id state s) (progress_of store.database.left state s)
 work-of laws origin store state h s is records clock index a = record {
   transaction = one-session laws origin store state h s is records clock index a;
   rules = sym h.rules;

@@ -98,6 +98,7 @@ module _ (laws : ChangesAreProper) (tenant : ℕ) (state : State) (h : HasSoundL
           (has-after_all p.changes (tables_without state s) (target statement) ∙ has-after_all others state.catalog.tables (target statement) ∙ there)
           (sound-after_all p.changes (tables_without state s) (target statement) k.1 (base-sound p k.0 (target statement) asked there)) e).proper,
     );
+    left = λ left p k. ((fit-kept setting state.locks).left left p k.0, k.1);
   }
     where
       setting : Setting

@@ -1,6 +1,7 @@
 -- Locks belong to transactions: what each command leaves of it, and so each legal trail.
 use Rattle.std.proofs.Common.{◌≡◌, ◌∙◌, ℕ, ◌+◌, ◌≤◌, Bool, true, false, not, ◌&&◌, ◌==◌, cond, nat_eq, List, [], ◌++◌, length, Option, Some, None, Result, Ok, Err, refl, sym, ap, subst, eqb-true, true≢false, arith, length-append, IsFalse}
 use Rattle.std.proofs.lemmas.Bool.{eq-eqb}
+use Rattle.sb_tenant.specs.declared.bound.Bound.{Bound}
 use Rattle.sb_value.specs.declared.change.Change.{Change}
 use Rattle.sb_value.specs.declared.lock.LockMode.{LockMode}
 use Rattle.sb_value.specs.declared.refusal.Refusal.{Refusal}
@@ -11,7 +12,8 @@ use Rattle.sb_check.specs.declared.tree.Statement.{Statement}
 use Rattle.sb_catalog.specs.Definitions.{is_member}
 use Rattle.sb_catalog.specs.Rules.{is_active}
 use Rattle.sb_eval.specs.Seen.{no_transition}
-use Rattle.sb_eval.specs.Statement.{query_locks, statement_locks, statement_changes}
+use Rattle.sb_eval.specs.Statement.{query_locks, statement_locks}
+use Rattle.sb_process.specs.Consider.{statement_effect}
 use Rattle.sb_eval.specs.Target.{target}
 use Rattle.sb_process.specs.declared.Outcome.{Outcome}
 use Rattle.sb_process.specs.declared.Outcome.TheVariants.{Done, ByRule, ByError, ByLimit}
@@ -31,6 +33,7 @@ use Rattle.sb_tenant.specs.Step.{first_of, session_refusal, outcome_of, reply_to
 use Rattle.sb_tenant.specs.Trail.{after_abort, is_no_memory, after_entry}
 use Rattle.sb_tenant.specs.Walk.{class_of, walk}
 use Rattle.sb_tenant.specs.WellFormed.{HasSoundLocks}
+use Rattle.sb_tenant.proofs.Charging.{effect-changes}
 use Rattle.sb_tenant.proofs.Keeping.{IsKept, process-keeps, Any, any-rules, step-keeps}
 use Rattle.sb_tenant.proofs.Resolving.{is_edge}
 use Rattle.sb_tenant.proofs.SessionLaws.{own_session, IsInner, refused, resolved, inner-walk}
@@ -59,6 +62,7 @@ fit-kept setting first = record {
     marks = λ id. let m : p.marks id ≤ length p.changes = h.marks id in omega (arith, length-append p.changes changes);
     locked = locked-and p.locks setting.who.session (target statement) p.changes changes asked h.locked (of-target (seen_with setting tables p) statement changes e);
   };
+  left = λ left p h. record { taken = h.taken; marks = h.marks; locked = h.locked };
 }
   where
     marked-within : (p : Progress) → IsFit setting.who.session first p → (b : Bool) (id : ℕ) → cond b (length p.changes) (p.marks id) ≤ length p.changes
@@ -105,8 +109,8 @@ module _ (state : State) (h : HasSoundLocks state) (s : ℕ) where
   pub sound-goes : (p : Progress) → IsFit s state.locks p → HasSoundLocks (with_progress state s p)
   sound-goes p fit = sound-put state.catalog state.steps (active p.changes p.marks) p.locks fit.taken fit.marks (λ t m e. absurd (true≢false e)) fit.locked
 
-  pub begins-fit : IsFit s state.locks (progress_of state s)
-  begins-fit = record { taken = taken-none s state.locks h.exclusive; marks = λ rule. h.marks s rule; locked = h.locked s }
+  pub begins-fit : (left : Option ℕ) → IsFit s state.locks (progress_of left state s)
+  begins-fit left = record { taken = taken-none s state.locks h.exclusive; marks = λ rule. h.marks s rule; locked = h.locked s }
 
 sound-closed : (state : State) → HasSoundLocks state → (s : ℕ) → HasSoundLocks (with_session (rolled_back state s) s closed)
 sound-closed state h s =
@@ -117,7 +121,7 @@ sound-closed state h s =
 
 -- ---- what each command does
 
-module _ (tenant bound : ℕ) (state : State) (h : HasSoundLocks state) (s : ℕ) where
+module _ (tenant : ℕ) (bound : Bound) (state : State) (h : HasSoundLocks state) (s : ℕ) where
   abbrev setting : Setting
   setting = setting_of tenant state s
 
@@ -131,32 +135,33 @@ module _ (tenant bound : ℕ) (state : State) (h : HasSoundLocks state) (s : ℕ
   sound-process : (eligible : ℕ → Bool) (finish : State → State) → ((p : Progress) → HasSoundLocks (with_progress state s p) → HasSoundLocks (finish (with_progress state s p))) →
       HasSoundLocks (process_at tenant bound state s eligible finish).0
   sound-process eligible finish finishes =
-      let p = process bound setting eligible (progress_of state s) in
+      let p = process bound.considerations setting eligible (progress_of bound.work state s) in
       sound-stands finish finishes p.outcome p.progress
-      (process-keeps setting Any (IsFit s state.locks) (fit-kept setting state.locks) (any-rules setting.rules) bound eligible (progress_of state s) (begins-fit state h s))
+      (process-keeps setting Any (IsFit s state.locks) (fit-kept setting state.locks) (any-rules setting.rules) bound.considerations eligible (progress_of bound.work state s) (begins-fit state h s bound.work))
 
   abbrev pub asked : List (ℕ × LockMode) → Progress
-  asked request = record (progress_of state s) { locks = with_locks state.locks s request }
+  asked request = record (progress_of bound.work state s) { locks = with_locks state.locks s request }
 
-  sound-request : (request : List (ℕ × LockMode)) (next : Progress → State × Reply) → (IsFit s state.locks (asked request) → HasSoundLocks (next (asked request)).0) → HasSoundLocks (with_request state s request next).0
+  sound-request : (request : List (ℕ × LockMode)) (next : Progress → State × Reply) → (IsFit s state.locks (asked request) → HasSoundLocks (next (asked request)).0) → HasSoundLocks (with_request bound state s request next).0
   sound-request request next f = by (first_conflict state.locks s request) refl
     where
       by : (o : Option ℕ) → first_conflict state.locks s request ≡ o →
           HasSoundLocks (elim o as (λ _. State × Reply) [ Some table ↦ (state, reply.No (refusal.Locked (name_at state.catalog.tables table))) | None ↦ next (asked request) ]).0
       by (Some table) e = h
-      by None e = f ((fit-kept setting state.locks).request request (progress_of state s) e (begins-fit state h s))
+      by None e = f ((fit-kept setting state.locks).request request (progress_of bound.work state s) e (begins-fit state h s bound.work))
 
   sound-change : (statement : Statement) → IsFit s state.locks (asked (statement_locks statement)) → HasSoundLocks (perform_change tenant state s statement (asked (statement_locks statement))).0
-  sound-change statement fit = by (statement_changes (seen_with setting no_transition p) statement) refl
+  sound-change statement fit = by (statement_effect setting no_transition statement p) refl
     where
       p : Progress
       p = asked (statement_locks statement)
 
-      by : (r : Result (List Change) Refusal) → statement_changes (seen_with setting no_transition p) statement ≡ r → HasSoundLocks (change_seen state s p r).0
+      by : (r : Result (List Change × Option ℕ) Refusal) → statement_effect setting no_transition statement p ≡ r → HasSoundLocks (change_seen state s p r).0
       by (Err e) given = sound-goes state h s p fit
-      by (Ok changes) given =
-          sound-goes state h s (record p { changes = p.changes ++ changes })
-          ((fit-kept setting state.locks).change no_transition statement p changes tt (target-asked state.locks s statement) fit given)
+      by (Ok effect) given =
+          sound-goes state h s (record p { changes = p.changes ++ effect.0 })
+          ((fit-kept setting state.locks).change no_transition statement p effect.0 tt (target-asked state.locks s statement) fit
+          (effect-changes (seen_with setting no_transition p) setting.rules statement p.left effect given))
 
   pub sound-perform : (r : Resolved) → is_edge r ≡ false → HasSoundLocks (perform tenant bound state s r).0
   sound-perform open_session e = absurd (true≢false e)
@@ -223,7 +228,7 @@ opening-sound = record {
   exclusive = λ s o t m is io differ e. refl;
 }
 
-module _ (tenant bound : ℕ) where
+module _ (tenant : ℕ) (bound : Bound) where
   pub sound-entry : (state : State) (entry : Entry) → HasSoundLocks state → HasSoundLocks (after_entry tenant bound state entry)
   sound-entry state entry h = by (is_no_memory entry.reply)
     where

@@ -1,5 +1,6 @@
 -- The definitions never answer that memory ran out, and that the trail is full only where it is: neither a walk nor a statement says so.
-use Rattle.std.proofs.Common.{◌≡◌, ℕ, ◌+◌, Bool, true, false, not, ◌&&◌, ◌==◌, List, [], ◌∷◌, length, Option, Some, None, Result, Ok, Err, refl, sym, ap, ◌∙◌, inl, inr}
+use Rattle.std.proofs.Common.{◌≡◌, ℕ, ◌+◌, ◌*◌, Bool, true, false, not, ◌&&◌, ◌==◌, List, [], ◌∷◌, length, Option, Some, None, Result, Ok, Err, refl, sym, ap, ◌∙◌, inl, inr}
+use Rattle.sb_tenant.specs.declared.bound.Bound.{Bound}
 use Rattle.sb_value.specs.declared.value.ColumnType.{ColumnType}
 use Rattle.sb_value.specs.declared.value.ColumnDefinition.{ColumnDefinition}
 use Rattle.sb_value.specs.declared.net.Triggers.{Triggers}
@@ -24,7 +25,7 @@ use Rattle.std.specs.Prelude.{nat_lt, if◌then◌else◌}
 use Rattle.sb_value.specs.declared.refusal.Refusal.TheVariants.{TooBig, TooManyRows}
 use Rattle.sb_check.specs.Condition.{Query}
 use Rattle.sb_check.specs.declared.tree.Statement.{Statement}
-use Rattle.sb_eval.specs.Seen.{Seen, rows_in}
+use Rattle.sb_eval.specs.Seen.{Seen, rows_in, row_count}
 use Rattle.sb_eval.specs.Meaning.{rows_of}
 use Rattle.sb_eval.specs.Statement.{cost_limit, row_limit, or_overflow, within_cost, within_rows, condition_rows, select_rows, statement_cost, changes_by, rows_after, statement_changes}
 use Rattle.sb_value.specs.declared.value.Value.{Value}
@@ -35,7 +36,13 @@ use Rattle.sb_value.specs.Table.{name_at}
 use Rattle.sb_value.specs.Locks.{first_conflict, with_locks}
 use Rattle.sb_eval.specs.Seen.{no_transition}
 use Rattle.sb_eval.specs.Statement.{query_locks, statement_locks}
-use Rattle.sb_process.specs.Setting.{Progress, seen_with}
+use Rattle.sb_value.specs.declared.net.Transition.{Transition}
+use Rattle.sb_eval.specs.Target.{target}
+use Rattle.sb_eval.specs.Work.{query_work, statement_work}
+use Rattle.sb_process.specs.Budget.{with_work, change_work, within_budget}
+use Rattle.sb_process.specs.Consider.{statement_effect, select_within}
+use Rattle.sb_process.specs.Setting.{Setting, Progress, seen_with}
+use Rattle.sb_tenant.proofs.Charging.{with-each}
 use Rattle.sb_process.specs.Process.{process}
 use Rattle.sb_process.specs.declared.Outcome.{Outcome}
 use Rattle.sb_process.specs.declared.Outcome.TheVariants.{Done, ByRule, ByError, ByLimit}
@@ -308,8 +315,25 @@ fine-within_rows {A} count r (given a) = elim (nat_lt row_limit (count a)) as (�
 pub fine-select_rows : (seen : Seen) (q : Query) → IsFine (select_rows seen q)
 fine-select_rows seen q = fine-within_rows length (condition_rows seen q) (fine-within_cost _ (rows_of (rows_in seen) q []))
 
+-- within a budget
+fine-with_work : {A : Type 0} (work : ℕ) (left : Option ℕ) (next : Option ℕ → Result A Refusal) → ((rest : Option ℕ) → IsFine (next rest)) → IsFine (with_work work left next)
+fine-with_work work left next h = with-each work next IsFine left (refused refusal.TooBig refl) h
+
+fine-within_budget : (each : ℕ) (left : Option ℕ) (r : Result (List Change) Refusal) → IsFine r → IsFine (within_budget each left r)
+fine-within_budget each left r (refused e p) = refused e p
+fine-within_budget each left r (given changes) = fine-with_work (length changes * each) left (λ rest. Ok (changes, rest)) (λ rest. given (changes, rest))
+
+pub fine-select_within : (seen : Seen) (q : Query) (left : Option ℕ) → IsFine (select_within seen q left)
+fine-select_within seen q left = fine-with_work (query_work (row_count seen) q) left (λ rest. select_rows seen q) (λ rest. fine-select_rows seen q)
+
 pub fine-statement_changes : (seen : Seen) (s : Statement) → IsFine (statement_changes seen s)
 fine-statement_changes seen s = fine-within_rows (rows_after seen s) (within_cost (statement_cost seen s) (changes_by seen s)) (fine-within_cost (statement_cost seen s) (changes_by seen s))
+
+pub fine-effect : (setting : Setting) (tables : Transition) (s : Statement) (p : Progress) → IsFine (statement_effect setting tables s p)
+fine-effect setting tables s p =
+    let seen = seen_with setting tables p in
+    fine-with_work (statement_work seen s) p.left (λ rest. within_budget (change_work setting.rules (target s)) rest (statement_changes seen s))
+    (λ rest. fine-within_budget (change_work setting.rules (target s)) rest (statement_changes seen s) (fine-statement_changes seen s))
 
 -- ---- a step
 
@@ -340,17 +364,17 @@ fine-reply_rows : (r : Result (List (List Value)) Refusal) → IsFine r → says
 fine-reply_rows r (given rows) = refl
 fine-reply_rows r (refused e p) = p
 
-fine-change_seen : (state : State) (s : ℕ) (progress : Progress) (r : Result (List Change) Refusal) → IsFine r → says_outside (change_seen state s progress r).1 ≡ false
+fine-change_seen : (state : State) (s : ℕ) (progress : Progress) (r : Result (List Change × Option ℕ) Refusal) → IsFine r → says_outside (change_seen state s progress r).1 ≡ false
 fine-change_seen state s progress r (given changes) = refl
 fine-change_seen state s progress r (refused e p) = p
 
-fine-with_request : (state : State) (s : ℕ) (request : List (ℕ × LockMode)) (next : Progress → State × Reply) → ((p : Progress) → says_outside (next p).1 ≡ false) →
-    says_outside (with_request state s request next).1 ≡ false
-fine-with_request state s request next h =
+fine-with_request : (bound : Bound) (state : State) (s : ℕ) (request : List (ℕ × LockMode)) (next : Progress → State × Reply) → ((p : Progress) → says_outside (next p).1 ≡ false) →
+    says_outside (with_request bound state s request next).1 ≡ false
+fine-with_request bound state s request next h =
     elim (first_conflict state.locks s request) as (λ x.
     let r : State × Reply = elim x [
       | Some table ↦ (state, reply.No (refusal.Locked (name_at state.catalog.tables table)))
-      | None ↦ next (record (progress_of state s) { locks = with_locks state.locks s request })
+      | None ↦ next (record (progress_of bound.work state s) { locks = with_locks state.locks s request })
     ] in says_outside r.1 ≡ false) [ Some table ↦ refl | None ↦ h _ ]
 
 fine-reply_of : (catalog : Catalog) (outcome : Outcome) (trace : List (List ℕ × Verdict)) → says_outside (reply_of catalog outcome trace) ≡ false
@@ -359,10 +383,10 @@ fine-reply_of catalog (ByRule r) trace = refl
 fine-reply_of catalog (ByError r e) trace = refl
 fine-reply_of catalog ByLimit trace = refl
 
-module _ (tenant bound : ℕ) (state : State) (s : ℕ) where
+module _ (tenant : ℕ) (bound : Bound) (state : State) (s : ℕ) where
   fine-process_at : (eligible : ℕ → Bool) (finish : State → State) → says_outside (process_at tenant bound state s eligible finish).1 ≡ false
   fine-process_at eligible finish =
-      let p = process bound (setting_of tenant state s) eligible (progress_of state s) in fine-reply_of state.catalog p.outcome (named state.catalog p.trace)
+      let p = process bound.considerations (setting_of tenant state s) eligible (progress_of bound.work state s) in fine-reply_of state.catalog p.outcome (named state.catalog p.trace)
 
   fine-perform : (r : Resolved) → says_outside (perform tenant bound state s r).1 ≡ false
   fine-perform open_session = refl
@@ -385,14 +409,13 @@ module _ (tenant bound : ℕ) (state : State) (s : ℕ) where
   fine-perform (add_rules name ids) = refl
   fine-perform (del_rules name ids) = refl
   fine-perform (query q) =
-      fine-with_request state s (query_locks q) (select_seen tenant state s q)
-      (λ p. fine-reply_rows (select_rows (seen_with (setting_of tenant state s) no_transition p) q) (fine-select_rows (seen_with (setting_of tenant state s) no_transition p) q))
+      fine-with_request bound state s (query_locks q) (select_seen tenant state s q)
+      (λ p. fine-reply_rows (select_within (seen_with (setting_of tenant state s) no_transition p) q p.left) (fine-select_within (seen_with (setting_of tenant state s) no_transition p) q p.left))
   fine-perform (change statement) =
-      fine-with_request state s (statement_locks statement) (perform_change tenant state s statement)
-      (λ p. fine-change_seen state s p (statement_changes (seen_with (setting_of tenant state s) no_transition p) statement)
-      (fine-statement_changes (seen_with (setting_of tenant state s) no_transition p) statement))
+      fine-with_request bound state s (statement_locks statement) (perform_change tenant state s statement)
+      (λ p. fine-change_seen state s p (statement_effect (setting_of tenant state s) no_transition statement p) (fine-effect (setting_of tenant state s) no_transition statement p))
 
-module _ (tenant bound : ℕ) (state : State) (s : ℕ) where
+module _ (tenant : ℕ) (bound : Bound) (state : State) (s : ℕ) where
   fine-outcome_of : (r : Option Refusal) (w : Result Resolved Refusal) → IsFineIfAny r → IsFine w → says_outside (outcome_of tenant bound state s r w).1 ≡ false
   fine-outcome_of (Some r) w p h = p
   fine-outcome_of None w p (refused e q) = q
@@ -428,7 +451,7 @@ module _ (tenant bound : ℕ) (state : State) (s : ℕ) where
 
 -- ---- the answer of a step
 
-module _ (tenant bound : ℕ) where
+module _ (tenant : ℕ) (bound : Bound) where
   has-number : (trail new : List TrailEntry) (s : ℕ) (line : List ℕ) (answer : Answer) → Extends tenant bound trail s line answer new → answer.number ≡ None → ⊥
   has-number trail new s line answer (longer, number, next) none = absurd (let e = sym number ∙ none in cc)
 

@@ -1,5 +1,5 @@
 -- What stands after the calls on a session's transaction.
-use Rattle.std.proofs.Common.{◌≡◌, ◌∙◌, ℕ, Bool, ◌||◌, nat_eq, List, [], ◌∷◌, ◌++◌, drop, length, refl, sym, ap, subst, true≢false, IsTrue, filter, nat_le, nat_lt, ◌&&◌, arith}
+use Rattle.std.proofs.Common.{None, ◌≡◌, ◌∙◌, ℕ, Bool, ◌||◌, nat_eq, List, [], ◌∷◌, ◌++◌, drop, length, refl, sym, ap, subst, true≢false, IsTrue, filter, nat_le, nat_lt, ◌&&◌, arith}
 use Rattle.sb_value.specs.declared.lock.LockMode.{LockMode}
 use Rattle.std.proofs.Math.Seq.{drop-nil}
 use Rattle.sb_value.specs.Locks.{sessions, released}
@@ -62,7 +62,7 @@ has-entries (h ∷ tables) id = ap (λ (b : Bool). nat_eq h.id id || b) (has-ent
 
 module _ (laws : TablesAreShared) (s : ℕ) (is : IsTrue (is_session s)) (old new : Store) (earlier after : List Record) (clock later : ℕ) (index : List (List TableSets)) (state next : State) (origin : List Held) (h : Holds origin old state)
     (a : Agrees old.database.id state old.database.transactions earlier clock index) (c : IsCallOf s old new earlier after clock later) (n : IsStateAfter s state next) where
-  abbrev was : Represents (base_of origin state s) old.database s earlier clock (setting_of old.database.id state s) (progress_of state s)
+  abbrev was : Represents (base_of origin state s) old.database s earlier clock (setting_of old.database.id state s) (progress_of old.database.left state s)
   was = one-session laws origin old state h s is earlier clock index a
 
   -- the transaction goes on
@@ -82,7 +82,7 @@ module _ (laws : TablesAreShared) (s : ℕ) (is : IsTrue (is_session s)) (old ne
       past = r.tested;
       untriggered = r.untriggered;
       locked = subst (λ l. AreLocked l s (changes_of (session_at next s))) (sym locks) (subst (AreLocked p.locks s) (ap changes_of (sym session)) r.locked);
-      candidates = still-candidates new.database.transactions new.database.transactions s p (progress_of next s) (λ x. refl) (ap changes_of session) (λ x. ap (λ (y : Session). marks_of y x) session) state.catalog.rules r.candidates;
+      candidates = still-candidates new.database.transactions new.database.transactions s p (progress_of None next s) (λ x. refl) (ap changes_of session) (λ x. ap (λ (y : Session). marks_of y x) session) state.catalog.rules r.candidates;
     }
 
     pub stands-with : next.catalog.tables ≡ state.catalog.tables → StandFor new after later index next
@@ -108,7 +108,7 @@ module _ (laws : TablesAreShared) (s : ℕ) (is : IsTrue (is_session s)) (old ne
         past = past;
         untriggered = none-untriggered (who_of new.database.id s) new.database.transactions after empty state.catalog.rules;
         locked = subst (AreLocked next.locks s) (sym none) tt;
-        candidates = no-candidates new.database.transactions s (progress_of next s) none state.catalog.rules;
+        candidates = no-candidates new.database.transactions s (progress_of None next s) none state.catalog.rules;
       }
 
     -- it had none
@@ -119,7 +119,7 @@ module _ (laws : TablesAreShared) (s : ℕ) (is : IsTrue (is_session s)) (old ne
         (subst (λ ts. AreMade (base_of origin state s) (changes_at next s) ts) (sym tables) (subst (λ cs. AreMade (base_of origin state s) cs old.database.tables) (empty ∙ sym none) was.made))
 
     -- its changes are taken back
-    pub stands-back : (d : Database) → IsTakenBack (base_of origin state s) d new.database s after (setting_of old.database.id state s) (progress_of state s) → next.catalog.tables ≡ state.catalog.tables →
+    pub stands-back : (d : Database) → IsTakenBack (base_of origin state s) d new.database s after (setting_of old.database.id state s) (progress_of old.database.left state s) → next.catalog.tables ≡ state.catalog.tables →
         StandFor new after later index next
     stands-back d b tables =
         let numbers = λ (t : ℕ). laws.there (base_of origin state s) new.database.tables [] b.made t ∙ sym (laws.there (base_of origin state s) old.database.tables (changes_at state s) was.made t) in
@@ -130,7 +130,7 @@ module _ (laws : TablesAreShared) (s : ℕ) (is : IsTrue (is_session s)) (old ne
     abbrev from : List Held
     from = settled_where (is_written state.locks s) (tables_after_all (changes_at state s) origin)
 
-    pub stands-kept : IsKept old.database new.database s after (setting_of old.database.id state s) (progress_of state s) → next.catalog.tables ≡ after_all (changes_at state s) state.catalog.tables →
+    pub stands-kept : IsKept old.database new.database s after (setting_of old.database.id state s) (progress_of old.database.left state s) → next.catalog.tables ≡ after_all (changes_at state s) state.catalog.tables →
         StandFor new after later index next
     stands-kept b tables = ((from, holds-on s is old new earlier after clock later index state next origin h step from committed made), agrees-on s is old new earlier after clock later index state next origin h step a)
       where

@@ -1,5 +1,5 @@
 -- A session that opens, and one that closes.
-use Rattle.std.proofs.Common.{◌≡◌, ◌∙◌, ℕ, Bool, true, false, not, ◌&&◌, cond, nat_eq, List, [], refl, sym, ap, subst, IsTrue}
+use Rattle.std.proofs.Common.{None, ◌≡◌, ◌∙◌, ℕ, Bool, true, false, not, ◌&&◌, cond, nat_eq, List, [], refl, sym, ap, subst, IsTrue}
 use Rattle.std.specs.List.{flat_map}
 use Rattle.sb_value.specs.Locks.{Locks, sessions, released}
 use Rattle.sb_rawlog.specs.Records.{Record}
@@ -58,8 +58,8 @@ module _ (s : ℕ) (is : IsTrue (is_session s)) (old new : Store) (state : State
     locks = λ o t m. ap (λ d. held d.locks o t m) database ∙ h.locks o t m;
     phases = λ o io. own-or-other s o (λ x. phase_at new.phases x ≡ phase_of (session_at next x)) (phase ∙ ap phase_of (sym (own_session state s idle)))
         (λ other. others o other ∙ h.phases o io ∙ ap phase_of (sym (other_session state s idle o other)));
-    candidates = λ o io. subst (λ d. AreCandidates d.transactions o (progress_of next o) state.catalog.rules) (sym database)
-        (still-candidates old.database.transactions old.database.transactions o (progress_of state o) (progress_of next o) (λ r. refl) (same-changes o) (same-marks o) state.catalog.rules (h.candidates o io));
+    candidates = λ o io. subst (λ d. AreCandidates d.transactions o (progress_of None next o) state.catalog.rules) (sym database)
+        (still-candidates old.database.transactions old.database.transactions o (progress_of None state o) (progress_of None next o) (λ r. refl) (same-changes o) (same-marks o) state.catalog.rules (h.candidates o io));
     rules = ap (λ d. d.rules) definitions ∙ h.rules;
     ordered = subst (λ d. AreOrdered d.order state.catalog.rules state.catalog.pairs) (sym definitions) h.ordered;
     rulesets = ap (λ d. d.rulesets) definitions ∙ h.rulesets;

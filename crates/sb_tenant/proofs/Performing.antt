@@ -1,6 +1,7 @@
 -- What each command does to a state whose tuples are numbered otherwise: the same reply, and a state that is numbered so.
 use Rattle.std.proofs.Common.{◌≡◌, ◌∙◌, ℕ, Bool, true, false, ◌&&◌, nat_eq, List, [], ◌++◌, map, Option, Some, None, Result, Ok, Err, refl, sym, ap, subst, IsTrue}
 use Rattle.std.proofs.lemmas.List.{map-append, length-map}
+use Rattle.sb_tenant.specs.declared.bound.Bound.{Bound}
 use Rattle.sb_value.specs.declared.change.Change.{Change}
 use Rattle.sb_value.specs.declared.lock.LockMode.{LockMode}
 use Rattle.sb_value.specs.declared.refusal.Refusal.{Refusal}
@@ -14,7 +15,9 @@ use Rattle.sb_check.specs.declared.tree.Statement.{Statement}
 use Rattle.sb_catalog.specs.Definitions.{is_member}
 use Rattle.sb_catalog.specs.Rules.{IsLeastFree, least_free, is_active}
 use Rattle.sb_eval.specs.Seen.{no_transition}
-use Rattle.sb_eval.specs.Statement.{query_locks, statement_locks, statement_changes}
+use Rattle.sb_eval.specs.Statement.{query_locks, statement_locks}
+use Rattle.sb_catalog.specs.declared.rule.Rule.{Rule}
+use Rattle.sb_process.specs.Consider.{effect_seen, statement_effect}
 use Rattle.sb_process.specs.declared.Outcome.{Outcome}
 use Rattle.sb_process.specs.declared.Outcome.TheVariants.{Done, ByRule, ByError, ByLimit}
 use Rattle.sb_process.specs.Setting.{Progress, tables_seen, seen_with}
@@ -29,7 +32,7 @@ use Rattle.sb_tenant.specs.Perform.{reply_rows, select_seen, change_seen, with_r
 use Rattle.sb_tenant.specs.Alike.{HaveSamePairs}
 use Rattle.sb_tenant.specs.AlikeTenants.{Numbering, IsNumbering, renumbered_change, renumbered_entry}
 use Rattle.sb_tenant.proofs.Numbered.{tables_after, numbering_after, name_after}
-use Rattle.sb_tenant.proofs.Seeing.{map_ok, select_same, changes_same}
+use Rattle.sb_tenant.proofs.Seeing.{map_ok, select_within_same, effect_again, effect_same}
 use Rattle.sb_tenant.proofs.Pairs.{append-same, without-same as pairs-without-same}
 use Rattle.sb_tenant.proofs.AlikeProcessing.{renumbered_progress, renumbered_processing, process-same}
 use Rattle.sb_tenant.proofs.Commands.{IsSame, is_same, is_altered, Fits}
@@ -53,7 +56,7 @@ remade n one pairs sessions steps = record {
   steps = steps;
 }
 
-module _ (law : PrecedesIsClosure) (first tenant bound : ℕ) (n : Numbering) (one : State) (pairs : List (ℕ × ℕ)) (sess : ℕ → Session) (steps : ℕ) (made : IsMade tenant n one (remade n one pairs sess steps)) (s : ℕ) (is : IsTrue (is_session s)) where
+module _ (law : PrecedesIsClosure) (first tenant : ℕ) (bound : Bound) (n : Numbering) (one : State) (pairs : List (ℕ × ℕ)) (sess : ℕ → Session) (steps : ℕ) (made : IsMade tenant n one (remade n one pairs sess steps)) (s : ℕ) (is : IsTrue (is_session s)) where
   abbrev other : State
   other = remade n one pairs sess steps
 
@@ -66,10 +69,10 @@ module _ (law : PrecedesIsClosure) (first tenant bound : ℕ) (n : Numbering) (o
   -- ---- assertion points
 
   module _ (eligible : ℕ → Bool) (finish : State → State) (finishes : (p : Progress) → IsMade tenant n (finish (with_progress one s p)) (finish (with_progress other s (again p)))) where
-    processing : process bound (setting_of tenant other s) eligible (progress_of other s) ≡ renumbered_processing tenant n (process bound (setting_of first one s) eligible (progress_of one s))
+    processing : process bound.considerations (setting_of tenant other s) eligible (progress_of bound.work other s) ≡ renumbered_processing tenant n (process bound.considerations (setting_of first one s) eligible (progress_of bound.work one s))
     processing =
-        (λ i. process bound (setting-same tenant n one other made first s i) eligible (progress-same tenant n one other made s is i))
-        ∙ process-same law tenant n (setting_of first one s) pairs made.catalog.pairs (without-numbered tenant n one other made s) bound eligible (progress_of one s)
+        (λ i. process bound.considerations (setting-same tenant n one other made first s i) eligible (progress-same tenant n one other made bound.work s is i))
+        ∙ process-same law tenant n (setting_of first one s) pairs made.catalog.pairs (without-numbered tenant n one other made s) bound.considerations eligible (progress_of bound.work one s)
 
     stands : (outcome : Outcome) (p : Progress) → IsMade tenant n (stands_as one s finish (stands_after outcome p)) (stands_as other s finish (stands_after outcome (again p)))
     stands Done p = finishes p
@@ -89,24 +92,24 @@ module _ (law : PrecedesIsClosure) (first tenant bound : ℕ) (n : Numbering) (o
         (n, stands p.outcome p.progress, replies p.outcome p.trace)
       where
         p : Processing
-        p = process bound (setting_of first one s) eligible (progress_of one s)
+        p = process bound.considerations (setting_of first one s) eligible (progress_of bound.work one s)
 
   -- ---- statements
 
   request-same : (request : List (ℕ × LockMode)) (next next-again : Progress → State × Reply) → ((p : Progress) → IsAnswered tenant (next p) (next-again (again p))) →
-      IsAnswered tenant (with_request one s request next) (with_request other s request next-again)
+      IsAnswered tenant (with_request bound one s request next) (with_request bound other s request next-again)
   request-same request next next-again h = by (first_conflict one.locks s request)
     where
       granted : Progress → Progress
       granted p = record p { locks = with_locks one.locks s request }
 
       by : (o : Option ℕ) → IsAnswered tenant
-          (elim o as (λ _. State × Reply) [ Some table ↦ (one, reply.No (refusal.Locked (name_at one.catalog.tables table))) | None ↦ next (record (progress_of one s) { locks = with_locks one.locks s request }) ])
-          (elim o as (λ _. State × Reply) [ Some table ↦ (other, reply.No (refusal.Locked (name_at other.catalog.tables table))) | None ↦ next-again (record (progress_of other s) { locks = with_locks one.locks s request }) ])
+          (elim o as (λ _. State × Reply) [ Some table ↦ (one, reply.No (refusal.Locked (name_at one.catalog.tables table))) | None ↦ next (record (progress_of bound.work one s) { locks = with_locks one.locks s request }) ])
+          (elim o as (λ _. State × Reply) [ Some table ↦ (other, reply.No (refusal.Locked (name_at other.catalog.tables table))) | None ↦ next-again (record (progress_of bound.work other s) { locks = with_locks one.locks s request }) ])
       by (Some table) = (n, made, ap (λ name. reply.No (refusal.Locked name)) (name_after n one.catalog.tables table))
       by None =
-          subst (λ p. IsAnswered tenant (next (granted (progress_of one s))) (next-again (granted p))) (sym (progress-same tenant n one other made s is))
-          (h (granted (progress_of one s)))
+          subst (λ p. IsAnswered tenant (next (granted (progress_of bound.work one s))) (next-again (granted p))) (sym (progress-same tenant n one other made bound.work s is))
+          (h (granted (progress_of bound.work one s)))
 
   seen : (p : Progress) → tables_seen (setting_of tenant other s) (again p) ≡ map (renumbered_entry n) (tables_seen (setting_of first one s) p)
   seen p =
@@ -120,24 +123,24 @@ module _ (law : PrecedesIsClosure) (first tenant bound : ℕ) (n : Numbering) (o
   selected q p = (
     n,
     goes-on tenant n one other made s p,
-    ap reply_rows (select_same tenant n (seen_with (setting_of first one s) no_transition p) (seen_with (setting_of tenant other s) no_transition (again p)) (seen p) refl refl (seen-numbered p) q),
+    ap reply_rows (select_within_same tenant n (seen_with (setting_of first one s) no_transition p) (seen_with (setting_of tenant other s) no_transition (again p)) (seen p) refl refl (seen-numbered p) q p.left),
   )
 
-  changed : (p : Progress) (c : Result (List Change) Refusal) → IsAnswered tenant (change_seen one s p c) (change_seen other s (again p) (map_ok (map r) c))
+  changed : (p : Progress) (c : Result (List Change × Option ℕ) Refusal) → IsAnswered tenant (change_seen one s p c) (change_seen other s (again p) (map_ok (effect_again tenant n) c))
   changed p (Err e) = (n, goes-on tenant n one other made s p, refl)
-  changed p (Ok cs) = (
+  changed p (Ok effect) = (
     n,
-    put tenant n one other made s (active (p.changes ++ cs) p.marks) (active (map r p.changes ++ map r cs) p.marks) p.locks p.locks (λ i. active (sym (map-append r p.changes cs) i) p.marks) refl,
-    λ i. reply.Count (length-map cs r i),
+    put tenant n one other made s (active (p.changes ++ effect.0) p.marks) (active (map r p.changes ++ map r effect.0) p.marks) p.locks p.locks (λ i. active (sym (map-append r p.changes effect.0) i) p.marks) refl,
+    λ i. reply.Count (length-map effect.0 r i),
   )
 
   changes : (statement : Statement) (p : Progress) → IsAnswered tenant (perform_change first one s statement p) (perform_change tenant other s statement (again p))
   changes statement p =
       subst (λ c. IsAnswered tenant (perform_change first one s statement p) (change_seen other s (again p) c)) (sym same)
-      (changed p (statement_changes (seen_with (setting_of first one s) no_transition p) statement))
+      (changed p (statement_effect (setting_of first one s) no_transition statement p))
     where
-      same : statement_changes (seen_with (setting_of tenant other s) no_transition (again p)) statement ≡ map_ok (map r) (statement_changes (seen_with (setting_of first one s) no_transition p) statement)
-      same = changes_same tenant n (seen_with (setting_of first one s) no_transition p) (seen_with (setting_of tenant other s) no_transition (again p)) (seen p) refl refl (seen-numbered p) statement
+      same : statement_effect (setting_of tenant other s) no_transition statement (again p) ≡ map_ok (effect_again tenant n) (statement_effect (setting_of first one s) no_transition statement p)
+      same = ap (λ (rules : List Rule). effect_seen (seen_with (setting_of tenant other s) no_transition (again p)) rules statement p.left) made.catalog.rules ∙ effect_same tenant n (seen_with (setting_of first one s) no_transition p) (seen_with (setting_of tenant other s) no_transition (again p)) (seen p) refl refl (seen-numbered p) one.catalog.rules statement p.left
 
   -- ---- definitions
 

@@ -2,6 +2,7 @@
 use Rattle.std.proofs.Common.{◌≡◌, ◌∙◌, sym, ap, refl, ◌⊎◌, inl, inr, ℕ, ◌+◌, Bool, true, false, not, cond, ◌&&◌, ◌==◌, List, [], length, Option, Some, None, Result, Ok, Err, eqb-true}
 use Rattle.std.proofs.lemmas.Bool.{true≢false, false≢true}
 use Rattle.std.specs.Prelude.{if◌then◌else◌, nat_lt, option_and_then}
+use Rattle.sb_tenant.specs.declared.bound.Bound.{Bound}
 use Rattle.sb_value.specs.declared.change.Change.{Change}
 use Rattle.sb_value.specs.declared.lock.LockMode.{LockMode}
 use Rattle.sb_value.specs.declared.refusal.Refusal.{Refusal}
@@ -17,9 +18,11 @@ use Rattle.sb_plan.specs.Meaning.{rows_of}
 use Rattle.sb_plan.specs.Seen.{row_count, rows_in}
 use Rattle.sb_eval.specs.Seen.{no_transition}
 use Rattle.sb_value.specs.declared.value.Value.{Value}
-use Rattle.sb_eval.specs.Statement.{changes_by, cost_limit, or_overflow, query_locks, row_limit, rows_after, select_rows, statement_changes, statement_cost, statement_locks, within_cost, within_rows}
+use Rattle.sb_eval.specs.Statement.{changes_by, cost_limit, or_overflow, query_locks, row_limit, rows_after, statement_cost, statement_locks, within_cost, within_rows}
 use Rattle.sb_process.specs.Process.{process}
+use Rattle.sb_process.specs.Consider.{statement_effect, select_within}
 use Rattle.sb_process.specs.Setting.{Progress, seen_with}
+use Rattle.sb_tenant.proofs.Charging.{effect-refused, rows-refused-within}
 use Rattle.sb_process.specs.declared.Outcome.{Outcome}
 use Rattle.sb_process.specs.declared.Outcome.TheVariants.{Done, ByRule, ByError, ByLimit}
 use Rattle.sb_catalog.specs.Definitions.{is_member}
@@ -69,6 +72,11 @@ behind-cost count (Some a) false e h = behind-rows a (nat_lt row_limit (count a)
 behind : {A : Type 0} (count : A → ℕ) (cost : ℕ) (given : Option A) (e : Refusal) → within_rows count (within_cost cost given) ≡ Err e → ComesBehindLocks e
 behind count cost given e h = behind-cost count given (nat_lt cost_limit cost) e h
 
+-- with a budget
+behind-work : {A : Type 0} {r : Result A Refusal} {e : Refusal} → (r ≡ Err e → ComesBehindLocks e) → (refusal.TooBig ≡ e) ⊎ (r ≡ Err e) → ComesBehindLocks e
+behind-work late (inl big) = inl (sym big)
+behind-work late (inr h) = late h
+
 -- ---- a transaction whose changes and marks are put anew
 
 refilled : (session : Session) → has_transaction session ≡ true → active (changes_of session) (marks_of session) ≡ session
@@ -76,9 +84,9 @@ refilled closed h = absurd (false≢true h)
 refilled idle h = absurd (false≢true h)
 refilled (active changes marks) h = refl
 
-module _ (tenant bound : ℕ) (state : State) (s : ℕ) where
+module _ (tenant : ℕ) (bound : Bound) (state : State) (s : ℕ) where
   abbrev asked : List (ℕ × LockMode) → Progress
-  asked request = record (progress_of state s) { locks = with_locks state.locks s request }
+  asked request = record (progress_of bound.work state s) { locks = with_locks state.locks s request }
 
   abbrev locked : List (ℕ × LockMode) → State
   locked request = record state { locks = with_locks state.locks s request }
@@ -104,7 +112,7 @@ module _ (tenant bound : ℕ) (state : State) (s : ℕ) where
 
   leaves-request : (request : List (ℕ × LockMode)) (next : Progress → State × Reply) →
       ((e : Refusal) → (next (asked request)).1 ≡ reply.No e → ComesBehindLocks e × ((next (asked request)).0 ≡ locked request)) →
-      Leaves (Some request) (with_request state s request next)
+      Leaves (Some request) (with_request bound state s request next)
   leaves-request request next h = by (first_conflict state.locks s request) refl
     where
       by : (o : Option ℕ) → first_conflict state.locks s request ≡ o →
@@ -112,11 +120,11 @@ module _ (tenant bound : ℕ) (state : State) (s : ℕ) where
       by (Some table) conflict = λ e told. inl refl
       by None free = λ e told. let left = h e told in inr (left.0, request, refl, free, left.1)
 
-  leaves-change : has_transaction (session_at state s) ≡ true → (request : List (ℕ × LockMode)) (r : Result (List Change) Refusal) →
+  leaves-change : has_transaction (session_at state s) ≡ true → (request : List (ℕ × LockMode)) (r : Result (List Change × Option ℕ) Refusal) →
       ((e : Refusal) → r ≡ Err e → ComesBehindLocks e) → (e : Refusal) →
       (change_seen state s (asked request) r).1 ≡ reply.No e → ComesBehindLocks e × ((change_seen state s (asked request) r).0 ≡ locked request)
   leaves-change has request (Err why) late e told = (late e (let x = told in cc), goes-on has request)
-  leaves-change has request (Ok changes) late e told = absurd (let x = told in cc)
+  leaves-change has request (Ok effect) late e told = absurd (let x = told in cc)
 
   rows-refused : (r : Result (List (List Value)) Refusal) (e : Refusal) → reply_rows r ≡ reply.No e → r ≡ Err e
   rows-refused (Err why) e told = let x = told in cc
@@ -130,7 +138,7 @@ module _ (tenant bound : ℕ) (state : State) (s : ℕ) where
 
   leaves-process : (asks : Option (List (ℕ × LockMode))) (eligible : ℕ → Bool) (finish : State → State) → Leaves asks (process_at tenant bound state s eligible finish)
   leaves-process asks eligible finish e told =
-      let p = process bound (setting_of tenant state s) eligible (progress_of state s) in absurd (never state.catalog p.outcome (named state.catalog p.trace) e told)
+      let p = process bound.considerations (setting_of tenant state s) eligible (progress_of bound.work state s) in absurd (never state.catalog p.outcome (named state.catalog p.trace) e told)
 
   leaves-perform : (r : Resolved) → ((request : List (ℕ × LockMode)) → request_of (Ok r) ≡ Some request → has_transaction (session_at state s) ≡ true) →
       Leaves (request_of (Ok r)) (perform tenant bound state s r)
@@ -141,12 +149,17 @@ module _ (tenant bound : ℕ) (state : State) (s : ℕ) where
   leaves-perform (query q) has =
       let seen = seen_with (setting_of tenant state s) no_transition (asked (query_locks q)) in
       leaves-request (query_locks q) (select_seen tenant state s q)
-      (λ e told. (behind length (query_cost (row_count seen) q) (rows_of (rows_in seen) q []) e (rows-refused (select_rows seen q) e told), goes-on (has (query_locks q) refl) (query_locks q)))
+      (λ e told. (
+        behind-work (behind length (query_cost (row_count seen) q) (rows_of (rows_in seen) q []) e) (rows-refused-within seen q bound.work e (rows-refused (select_within seen q bound.work) e told)),
+        goes-on (has (query_locks q) refl) (query_locks q),
+      ))
   leaves-perform (change statement) has =
       let seen = seen_with (setting_of tenant state s) no_transition (asked (statement_locks statement)) in
       leaves-request (statement_locks statement) (perform_change tenant state s statement)
-      (leaves-change (has (statement_locks statement) refl) (statement_locks statement) (statement_changes seen statement)
-      (behind (rows_after seen statement) (statement_cost seen statement) (changes_by seen statement)))
+      (leaves-change (has (statement_locks statement) refl) (statement_locks statement) (statement_effect (setting_of tenant state s) no_transition statement (asked (statement_locks statement)))
+      (λ e refused.
+      behind-work (behind (rows_after seen statement) (statement_cost seen statement) (changes_by seen statement) e)
+      (effect-refused seen state.catalog.rules statement bound.work e refused)))
   leaves-perform other has = λ e told. absurd (let x = told in cc)
 
   leaves-outcome : (r : Option Refusal) (w : Result Resolved Refusal) →
@@ -204,10 +217,10 @@ module _ (tenant bound : ℕ) (state : State) (s : ℕ) where
       by (inl same) = inl (λ i. record (same i) { steps = state.steps + 1 })
       by (inr (late, request, asks, free, is)) = inr (late, (request, asks, free, λ i. record (is i) { steps = state.steps + 1 }))
 
-pub take_locks_at_most : (tenant bound : ℕ) → RefusalsTakeLocksAtMost tenant bound
+pub take_locks_at_most : (tenant : ℕ) (bound : Bound) → RefusalsTakeLocksAtMost tenant bound
 take_locks_at_most tenant bound state s line e told = leaves-step tenant bound state s line (is_full_for state s line) e told
 
-pub change_nothing : (tenant bound : ℕ) → RefusedDefinitionsChangeNothing tenant bound
+pub change_nothing : (tenant : ℕ) (bound : Bound) → RefusedDefinitionsChangeNothing tenant bound
 change_nothing tenant bound state s line command e is class told = by (take_locks_at_most tenant bound state s line e told)
   where
     none : request_in state line ≡ None

@@ -3,6 +3,7 @@ use Rattle.std.proofs.Common.{◌≡◌, ◌∙◌, ℕ, ◌+◌, ◌<◌, ◌�
 use Rattle.std.specs.List.{flat_map, list_any}
 use Rattle.std.proofs.lemmas.Bool.{lt-leb}
 use Rattle.std.proofs.lemmas.List.Elements.{All-nil, All-cons, All-head, All-tail}
+use Rattle.sb_tenant.specs.declared.bound.Bound.{Bound}
 use Rattle.sb_value.specs.declared.value.Value.{Value}
 use Rattle.sb_value.specs.declared.lock.LockMode.{LockMode}
 use Rattle.sb_value.specs.Locks.{sessions}
@@ -180,7 +181,7 @@ uncounted tenant one other h = record {
 
 -- ---- a state that is reached
 
-module _ (tenant bound : ℕ) where
+module _ (tenant : ℕ) (bound : Bound) where
   legal_more : (before state after : State) (trail : List entry.Entry) (e : entry.Entry) → IsLegal tenant bound before trail state → IsNext tenant bound state e after → IsLegal tenant bound before (trail ++ e ∷ []) after
   legal_more before state after [] e h next = (after, subst (λ (x : State). IsNext tenant bound x e after) h next, refl)
   legal_more before state after (x ∷ trail) e h next = (h.0, h.1, legal_more h.0 state after trail e h.2 next)
@@ -207,7 +208,7 @@ module _ (tenant bound : ℕ) where
 
 -- ---- the endless engine
 
-module _ (tenant bound : ℕ) where
+module _ (tenant : ℕ) (bound : Bound) where
   abbrev endless_after : State → List (ℕ × List ℕ) → State
   endless_after state [] = state
   endless_after state (e ∷ es) = endless_after (endless_step tenant bound state e.0 e.1).0 es
@@ -223,7 +224,7 @@ first_reply (r ∷ rs) = r
 
 -- ---- all volumes
 
-module _ (tenant bound : ℕ) (alike : AlikeAnswerAlike tenant tenant bound) (formed : StatesAreWellFormed tenant bound) (replays : LegalStatesAreReplayed tenant bound) (stay : OthersStay tenant bound) where
+module _ (tenant : ℕ) (bound : Bound) (alike : AlikeAnswerAlike tenant tenant bound) (formed : StatesAreWellFormed tenant bound) (replays : LegalStatesAreReplayed tenant bound) (stay : OthersStay tenant bound) where
   abbrev Alike : State → State → Type 0
   Alike one other = AreAlike tenant tenant one other
 
@@ -276,7 +277,7 @@ module _ (tenant bound : ℕ) (alike : AlikeAnswerAlike tenant tenant bound) (fo
 
 -- ---- a session without a transaction ends, and opens
 
-module _ (tenant bound : ℕ) (formed : StatesAreWellFormed tenant bound) where
+module _ (tenant : ℕ) (bound : Bound) (formed : StatesAreWellFormed tenant bound) where
   pub end_alone : EndsAlone tenant bound
   end_alone state s reached is =
       let up : is_open (session_at state s) ≡ true = ap is_open is in
@@ -302,6 +303,6 @@ module _ (tenant bound : ℕ) (formed : StatesAreWellFormed tenant bound) where
       same_sessions o true = refl
       same_sessions o false = refl
 
-pub open_alone : (tenant bound : ℕ) → OpensAlone tenant bound
+pub open_alone : (tenant : ℕ) (bound : Bound) → OpensAlone tenant bound
 open_alone tenant bound state s is below =
     step-numbered tenant bound state s (codes "open") (not_full tenant bound state s (codes "open") below) ∙ ap (numbered state) (opens tenant bound state s (ap is_open is))

@@ -1,6 +1,7 @@
 -- Legal trails and the states that they give.
 use Rattle.std.proofs.Common.{◌≡◌, ℕ, zero, suc, ◌+◌, ◌≤◌, Bool, true, false, not, cond, ◌&&◌, ◌==◌, nat_le, List, [], ◌∷◌, ◌++◌, length, count_by, Some, None, inl, inr, refl, sym, ◌∙◌, ap, subst, arith, lit≤, codes}
 use Rattle.std.proofs.lemmas.Bool.{ltb-true, leb-false, true≢false, false≢true, not-false, and_parts}
+use Rattle.sb_tenant.specs.declared.bound.Bound.{Bound}
 use Rattle.sb_value.specs.Name.{same_name}
 use Rattle.std.proofs.lemmas.List.Sums.{count_by-le-length}
 use Rattle.sb_value.specs.Locks.{sessions}
@@ -23,7 +24,7 @@ no_memory : (r : Reply) → is_no_memory r ≡ true → r ≡ reply.No refusal.N
 no_memory (reply.No refusal.NoMemory) h = refl
 no_memory r h = absurd (false≢true h)
 
-module _ (tenant bound : ℕ) where
+module _ (tenant : ℕ) (bound : Bound) where
   -- ---- the state after an entry
 
   step_after : (before : State) (entry : Entry) (after : State) → IsStep tenant bound before entry after → after ≡ after_entry tenant bound before entry
@@ -189,7 +190,7 @@ pub ends : command_of (codes "end") ≡ Some end_session
 unfolding command_of
 ends = refl
 
-module _ (tenant bound : ℕ) where
+module _ (tenant : ℕ) (bound : Bound) where
   -- past the limit only the end of an open session is a step
   by_end : (before : State) (entry : Entry) (after : State) → IsNext tenant bound before entry after → before.steps + open_count before ≤ entry_limit → nat_le trail_limit before.steps ≡ true →
       after.steps + open_count after ≤ entry_limit
@@ -221,7 +222,7 @@ module _ (tenant bound : ℕ) where
   bounded_from before [] after p h = subst (λ state. state.steps + open_count state ≤ entry_limit) (sym p) h
   bounded_from before (entry ∷ entries) after (mid, next, p) h = bounded_from mid entries after p (bounded_next before entry mid next h)
 
-pub trails_are_bounded : (tenant bound : ℕ) → TrailsAreBounded tenant bound
+pub trails_are_bounded : (tenant : ℕ) (bound : Bound) → TrailsAreBounded tenant bound
 trails_are_bounded tenant bound trail state p =
     let steps = legal_steps tenant bound opening trail state p in
     let h = bounded_from tenant bound opening trail state p (lit≤ tt) in

@@ -1,6 +1,7 @@
 -- The rules with one more or one less, and with one of them active or not.
 use Rattle.std.proofs.Common.{◌≡◌, ◌∙◌, ◌⊎◌, ℕ, ◌≤◌, Bool, true, false, not, List, ◌++◌, length, refl, sym, ap, subst, inl, inr}
 use Rattle.std.specs.Prelude.{Option, Some, None, Result, Ok, Err, [], unwrap_or}
+use Rattle.sb_tenant.specs.declared.bound.Bound.{Bound}
 use Rattle.sb_value.specs.declared.refusal.Refusal.{Refusal}
 use Rattle.sb_value.specs.declared.refusal.Refusal.TheVariants as refusal
 use Rattle.sb_value.specs.Table.{Entry, table_at}
@@ -214,7 +215,7 @@ module _ (old : Store) (before after : List (List TableSets)) (name : List ℕ) 
     -- made active or not, by a command that the walk resolves to this form
     pub rule_set : (active : Bool) (command : text.Command) (form : ℕ → Resolved)
         → ((state : State) → walk state.catalog command ≡ of_named form (rule_named state.catalog.rules name))
-        → ((tenant bound s : ℕ) (state : State) → perform tenant bound state s (form id) ≡ (record state { catalog = with_active state.catalog id active }, reply.Ok))
+        → ((tenant : ℕ) (bound : Bound) (s : ℕ) (state : State) → perform tenant bound state s (form id) ≡ (record state { catalog = with_active state.catalog id active }, reply.Ok))
         → SetsActive old.definitions new id active → Defines old store before after command (Ok tt)
     rule_set active command form walks performs sets = record {
       done = λ records clock state tenant bound s h. is_done command store records clock before after state tenant bound s (performed records clock state h);

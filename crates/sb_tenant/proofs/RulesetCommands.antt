@@ -1,6 +1,7 @@
 -- Other rulesets.
 use Rattle.std.proofs.Common.{◌≡◌, ◌∙◌, ◌⊎◌, ℕ, Bool, true, false, List, refl, sym, ap, subst, inl, inr}
 use Rattle.std.specs.Prelude.{Option, None, Some, Result, Ok, Err, unwrap_or, OnOk, IfErr, OnErr, IsTrue, IsFalse}
+use Rattle.sb_tenant.specs.declared.bound.Bound.{Bound}
 use Rattle.sb_value.specs.declared.refusal.Refusal.{Refusal}
 use Rattle.sb_value.specs.declared.refusal.Refusal.TheVariants as refusal
 use Rattle.sb_syntax.specs.Tree.{Command}
@@ -51,7 +52,7 @@ module _ (old : Store) (index : List (List TableSets)) (command : Command) where
         by records clock state h (inr m) = inr m
 
     pub is_set : IsAtRest old.phases → (change : List Ruleset → List Ruleset) (form : Resolved) → walked old.definitions.rulesets old.definitions.rules ≡ Ok form
-        → ((tenant bound s : ℕ) (state : State) → perform tenant bound state s form ≡ (record state { catalog = record state.catalog { rulesets = change state.catalog.rulesets } }, reply.Ok))
+        → ((tenant : ℕ) (bound : Bound) (s : ℕ) (state : State) → perform tenant bound state s form ≡ (record state { catalog = record state.catalog { rulesets = change state.catalog.rulesets } }, reply.Ok))
         → Defines old (with_sets old (change old.definitions.rulesets)) index index command (Ok tt)
     is_set rest change form w performs = record {
       done = λ records clock state tenant bound s h.
@@ -119,7 +120,7 @@ module _ (old : Store) (index : List (List TableSets)) (name : List ℕ) where
 -- the members of a ruleset, by a command that the walk resolves to this form
 module _ (old new : Store) (index : List (List TableSets)) (name : List ℕ) (rules : List (List ℕ)) (command : Command) (change : List Bool → List ℕ → List Bool) (form : List ℕ → Resolved)
     (walks : (state : State) → walk state.catalog command ≡ required (has_name state.catalog.rulesets name) refusal.NoRuleset (and_then (rules_named state.catalog.rules rules) (λ ids. Ok (form ids))))
-    (performs : (tenant bound s : ℕ) (state : State) (ids : List ℕ)
+    (performs : (tenant : ℕ) (bound : Bound) (s : ℕ) (state : State) (ids : List ℕ)
     → perform tenant bound state s (form ids) ≡ (record state { catalog = record state.catalog { rulesets = changed (λ set. change set ids) state.catalog.rulesets name } }, reply.Ok)) where
   abbrev walk_members : List Ruleset → List Rule → Result Resolved Refusal
   walk_members sets all = required (has_name sets name) refusal.NoRuleset (and_then (rules_named all rules) (λ ids. Ok (form ids)))

@@ -1,5 +1,6 @@
 -- Scripts of commands, each in its session.
 use Rattle.std.specs.Prelude.{ℕ, List, [], ◌∷◌, map, Option, Some, None, pos, codes}
+use Rattle.sb_tenant.specs.declared.bound.Bound.{Bound}
 use Rattle.sb_value.specs.declared.value.Value.{Value}
 use Rattle.sb_value.specs.declared.value.Value.TheVariants.{Int}
 use Rattle.sb_value.specs.declared.value.ColumnType.TheVariants as type
@@ -21,18 +22,22 @@ use Rattle.sb_tenant.specs.Step.{reply_to_command}
 
 -- ---- running a script
 
+-- so many considerations, and any work
+abbrev pub most : ℕ → Bound
+most considerations = record { considerations = considerations; work = None }
+
 -- the replies to commands of sessions, from a state on
-abbrev replies_from : ℕ → State → List (ℕ × Command) → List Reply
+abbrev replies_from : Bound → State → List (ℕ × Command) → List Reply
 replies_from bound state [] = []
 replies_from bound state (c ∷ cs) = let r = reply_to_command 0 bound state c.0 c.1 in r.1 ∷ replies_from bound r.0 cs
 
 -- from the opening state
 abbrev pub replies_in_sessions : ℕ → List (ℕ × Command) → List Reply
-replies_in_sessions bound script = replies_from bound opening script
+replies_in_sessions considerations script = replies_from (most considerations) opening script
 
 -- the replies to commands of one session
 abbrev pub replies : ℕ → List Command → List Reply
-replies bound script = replies_in_sessions bound (map (λ c. (0, c)) script)
+replies considerations script = replies_in_sessions considerations (map (λ c. (0, c)) script)
 
 -- ---- values, names and expressions
 

@@ -1,5 +1,5 @@
 -- What statements see of renumbered tables: the same rows, and changes that are renumbered.
-use Rattle.std.proofs.Common.{◌≡◌, ◌∙◌, ℕ, ◌+◌, ◌*◌, ◌||◌, Bool, true, false, cond, nat_eq, nat_lt, List, [], ◌∷◌, map, length, slice_set, sum, All, Option, Some, None, Result, Ok, Err, refl, sym, ap, subst, eqb-true}
+use Rattle.std.proofs.Common.{◌≡◌, ◌∙◌, ℕ, ◌+◌, ◌*◌, ◌-◌, ◌||◌, Bool, true, false, cond, nat_eq, nat_lt, List, [], ◌∷◌, map, length, slice_set, sum, All, Option, Some, None, Result, Ok, Err, refl, sym, ap, subst, eqb-true}
 use Rattle.std.specs.Prelude.{option_map, option_and_then}
 use Rattle.std.proofs.lemmas.List.{length-map, map-id}
 use Rattle.std.proofs.lemmas.List.Elements.{All-head, All-tail}
@@ -16,7 +16,13 @@ use Rattle.sb_check.specs.declared.tree.Statement.{Statement}
 use Rattle.sb_check.specs.declared.tree.Statement.TheVariants.{InsertRows, InsertQuery, Delete, Update}
 use Rattle.sb_plan.specs.Cost.{subquery_cost, operand_cost, query_cost}
 use Rattle.sb_plan.specs.Meaning.{Scope, both, each, passing, holds, operand_value, rows_of}
-use Rattle.sb_plan.specs.Seen.{Seen, rows_in}
+use Rattle.sb_plan.specs.Seen.{Seen, rows_in, row_count}
+use Rattle.sb_plan.specs.Work.{query_work, repeated_work, repeated_operand_work, single_work, single_operand_work}
+use Rattle.sb_catalog.specs.declared.rule.Rule.{Rule}
+use Rattle.sb_eval.specs.Target.{target}
+use Rattle.sb_eval.specs.Work.{statement_work}
+use Rattle.sb_process.specs.Budget.{with_work, within_budget, change_work}
+use Rattle.sb_process.specs.Consider.{effect_seen, select_within}
 use Rattle.sb_eval.specs.Statement.{cost_limit, row_limit, statement_cost, or_overflow, within_cost, within_rows, condition_rows, select_rows, insert_change, insert_changes, delete_change, update_change, scope_of, found, assigned, places_of, update_of, changes_by, rows_after, statement_changes}
 use Rattle.sb_tenant.specs.AlikeTenants.{Numbering, IsNumbering, renumbered_table, renumbered_entry, renumbered_change}
 use Rattle.sb_tenant.proofs.Numbered.{Row, renumbered_row, IsSteady, steady_on, map-map}
@@ -177,6 +183,17 @@ module _ (tenant : ℕ) (n : Numbering) (seen : Seen) (h : IsNumbering n seen.ta
   cost_same (Update t assignments c) = λ i.
       row_count_same t i * (1 + (sum (map (λ a. operand_cost (λ s. length (rows_in_same s i)) a.operand) assignments) + subquery_cost (λ s. length (rows_in_same s i)) c))
 
+  work_same : (s : Statement) → statement_work other s ≡ statement_work seen s
+  work_same (InsertRows t rows) = refl
+  work_same (InsertQuery t q) = λ i. query_work (λ s. length (rows_in_same s i)) q
+  work_same (Delete t c) = λ i. row_count_same t i * repeated_work (λ s. length (rows_in_same s i)) c + single_work (λ s. length (rows_in_same s i)) c
+  work_same (Update t assignments c) = λ i.
+      row_count_same t i * (sum (map (λ a. repeated_operand_work (λ s. length (rows_in_same s i)) a.operand) assignments) + repeated_work (λ s. length (rows_in_same s i)) c)
+      + (sum (map (λ a. single_operand_work (λ s. length (rows_in_same s i)) a.operand) assignments) + single_work (λ s. length (rows_in_same s i)) c)
+
+  query_work_same : (q : Query) → query_work (row_count other) q ≡ query_work (row_count seen) q
+  query_work_same q = λ i. query_work (λ s. length (rows_in_same s i)) q
+
   rows_after_same : (s : Statement) (changes : List Change) → rows_after other s (map again changes) ≡ rows_after seen s changes
   rows_after_same (InsertRows t rows) changes = λ i. row_count_same t i + length-map changes again i
   rows_after_same (InsertQuery t q) changes = λ i. row_count_same t i + length-map changes again i
@@ -200,6 +217,30 @@ module _ (tenant : ℕ) (n : Numbering) (seen : Seen) (h : IsNumbering n seen.ta
           ap (λ (m : ℕ). cond (nat_lt row_limit m) (Err TooManyRows) (Ok (map again changes))) (rows_after_same s changes)
           ∙ by_rows changes (nat_lt row_limit (rows_after seen s changes))
 
+-- ---- within a budget
+
+-- what is given is made the same of both, or both are too much
+pub work-both : {A B : Type 0} (f : A → B) (one other : ℕ) (left : Option ℕ) (next : Option ℕ → Result A Refusal) (again : Option ℕ → Result B Refusal) → other ≡ one → ((rest : Option ℕ) → again rest ≡ map_ok f (next rest)) →
+    with_work other left again ≡ map_ok f (with_work one left next)
+work-both f one other None next again e h = h None
+work-both {A} {B} f one other (Some left) next again e h =
+    (λ i. cond (nat_lt left (e i)) (Err TooBig) (again (Some (left - e i)))) ∙ by (nat_lt left one)
+  where
+    by : (b : Bool) → cond b (Err TooBig) (again (Some (left - one))) ≡ map_ok f (cond b (Err TooBig) (next (Some (left - one))))
+    by true = refl
+    by false = h (Some (left - one))
+
+module _ (tenant : ℕ) (n : Numbering) where
+  -- changes and what is left behind them, of the other tenant
+  abbrev pub effect_again : List Change × Option ℕ → List Change × Option ℕ
+  effect_again e = (map (renumbered_change tenant n) e.0, e.1)
+
+  priced_same : (price : ℕ) (rest : Option ℕ) (r : Result (List Change) Refusal) → within_budget price rest (map_ok (map (renumbered_change tenant n)) r) ≡ map_ok effect_again (within_budget price rest r)
+  priced_same price rest (Err e) = refl
+  priced_same price rest (Ok cs) =
+      work-both effect_again (length cs * price) (length (map (renumbered_change tenant n) cs) * price) rest (λ l. Ok (cs, l)) (λ l. Ok (map (renumbered_change tenant n) cs, l))
+      (λ i. length-map cs (renumbered_change tenant n) i * price) (λ l. refl)
+
 -- ---- what two tenants see
 
 module _ (tenant : ℕ) (n : Numbering) (one other : Seen) (tables : other.tables ≡ map (renumbered_entry n) one.tables) (transition : other.transition ≡ one.transition) (who : other.who ≡ record { tenant = tenant; session = one.who.session }) (h : IsNumbering n one.tables) where
@@ -214,3 +255,18 @@ module _ (tenant : ℕ) (n : Numbering) (one other : Seen) (tables : other.table
 
   pub changes_same : (s : Statement) → statement_changes other s ≡ map_ok (map (renumbered_change tenant n)) (statement_changes one s)
   changes_same s = ap (λ (seen : Seen). statement_changes seen s) seen_is ∙ changes_same_by tenant n one h s
+
+  -- the work of a query, and the effect of a statement
+  pub work_of_query : (q : Query) → query_work (row_count other) q ≡ query_work (row_count one) q
+  work_of_query q = ap (λ (seen : Seen). query_work (row_count seen) q) seen_is ∙ query_work_same tenant n one h q
+
+  pub effect_same : (rules : List Rule) (s : Statement) (left : Option ℕ) → effect_seen other rules s left ≡ map_ok (effect_again tenant n) (effect_seen one rules s left)
+  effect_same rules s left =
+      let price = change_work rules (target s) in
+      work-both (effect_again tenant n) (statement_work one s) (statement_work other s) left (λ rest. within_budget price rest (statement_changes one s)) (λ rest. within_budget price rest (statement_changes other s))
+      (ap (λ (seen : Seen). statement_work seen s) seen_is ∙ work_same tenant n one h s)
+      (λ rest. ap (within_budget price rest) (changes_same s) ∙ priced_same tenant n price rest (statement_changes one s))
+
+  pub select_within_same : (q : Query) (left : Option ℕ) → select_within other q left ≡ select_within one q left
+  select_within_same q None = select_same q
+  select_within_same q (Some left) = λ i. cond (nat_lt left (work_of_query q i)) (Err TooBig) (select_same q i)

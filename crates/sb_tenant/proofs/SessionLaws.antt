@@ -1,6 +1,7 @@
 -- What a step does to its own session and to the others.
 use Rattle.std.proofs.Common.{◌≡◌, ℕ, Bool, true, false, not, cond, ◌&&◌, ◌==◌, List, [], ◌++◌, Option, Some, None, Result, Ok, Err, refl, sym, ◌∙◌, ap}
 use Rattle.std.proofs.lemmas.Bool.{eq-eqb, true≢false}
+use Rattle.sb_tenant.specs.declared.bound.Bound.{Bound}
 use Rattle.sb_value.specs.declared.change.Change.{Change}
 use Rattle.sb_value.specs.declared.lock.LockMode.{LockMode}
 use Rattle.sb_value.specs.declared.refusal.Refusal.{Refusal}
@@ -10,8 +11,9 @@ use Rattle.sb_syntax.specs.Text.{command_of}
 use Rattle.sb_syntax.specs.Tree as text
 use Rattle.sb_syntax.specs.Tree.{Command}
 use Rattle.sb_eval.specs.Seen.{no_transition}
-use Rattle.sb_eval.specs.Statement.{query_locks, statement_locks, statement_changes}
-use Rattle.sb_process.specs.Setting.{Progress, seen_with}
+use Rattle.sb_eval.specs.Statement.{query_locks, statement_locks}
+use Rattle.sb_process.specs.Consider.{statement_effect}
+use Rattle.sb_process.specs.Setting.{Progress}
 use Rattle.sb_process.specs.Process.{Standing, goes_on, taken_back, process, standing}
 use Rattle.sb_tenant.specs.declared.reply.Answer.{Answer}
 use Rattle.sb_tenant.specs.declared.reply.Reply.{Reply}
@@ -51,28 +53,28 @@ module _ (s o : ℕ) (other : (o == s) ≡ false) where
   stands-stays state (goes_on progress) = other_session state s (active progress.changes progress.marks) o other
   stands-stays state taken_back = other_session state s idle o other
 
-  change-other : (state : State) (progress : Progress) (given : Result (List Change) Refusal) → session_at (change_seen state s progress given).0 o ≡ session_at state o
+  change-other : (state : State) (progress : Progress) (given : Result (List Change × Option ℕ) Refusal) → session_at (change_seen state s progress given).0 o ≡ session_at state o
   change-other state progress (Err refusal) = other_session state s (active progress.changes progress.marks) o other
-  change-other state progress (Ok changes) = other_session state s (active (progress.changes ++ changes) progress.marks) o other
+  change-other state progress (Ok effect) = other_session state s (active (progress.changes ++ effect.0) progress.marks) o other
 
-  request-other : (state : State) (request : List (ℕ × LockMode)) (next : Progress → State × Reply) → ((p : Progress) → session_at (next p).0 o ≡ session_at state o) →
-      session_at (with_request state s request next).0 o ≡ session_at state o
-  request-other state request next h =
+  request-other : (bound : Bound) (state : State) (request : List (ℕ × LockMode)) (next : Progress → State × Reply) → ((p : Progress) → session_at (next p).0 o ≡ session_at state o) →
+      session_at (with_request bound state s request next).0 o ≡ session_at state o
+  request-other bound state request next h =
       elim (first_conflict state.locks s request) as (λ x.
       let r : State × Reply = elim x [
         | Some table ↦ (state, reply.No (Locked (name_at state.catalog.tables table)))
-        | None ↦ next (record (progress_of state s) { locks = with_locks state.locks s request })
+        | None ↦ next (record (progress_of bound.work state s) { locks = with_locks state.locks s request })
       ] in session_at r.0 o ≡ session_at state o) [ Some table ↦ refl | None ↦ h _ ]
 
-  commit-other : (tenant bound : ℕ) (state : State) → session_at (perform tenant bound state s commit).0 o ≡ session_at state o
+  commit-other : (tenant : ℕ) (bound : Bound) (state : State) → session_at (perform tenant bound state s commit).0 o ≡ session_at state o
   commit-other tenant bound state =
-      let p = process bound (setting_of tenant state s) (is_active state.catalog.rules) (progress_of state s) in stands-commit state (standing p)
+      let p = process bound.considerations (setting_of tenant state s) (is_active state.catalog.rules) (progress_of bound.work state s) in stands-commit state (standing p)
 
-  process-other : (tenant bound : ℕ) (state : State) (eligible : ℕ → Bool) → session_at (process_at tenant bound state s eligible stays).0 o ≡ session_at state o
+  process-other : (tenant : ℕ) (bound : Bound) (state : State) (eligible : ℕ → Bool) → session_at (process_at tenant bound state s eligible stays).0 o ≡ session_at state o
   process-other tenant bound state eligible =
-      let p = process bound (setting_of tenant state s) eligible (progress_of state s) in stands-stays state (standing p)
+      let p = process bound.considerations (setting_of tenant state s) eligible (progress_of bound.work state s) in stands-stays state (standing p)
 
-  pub perform-other : (tenant bound : ℕ) (state : State) (r : Resolved) → session_at (perform tenant bound state s r).0 o ≡ session_at state o
+  pub perform-other : (tenant : ℕ) (bound : Bound) (state : State) (r : Resolved) → session_at (perform tenant bound state s r).0 o ≡ session_at state o
   perform-other tenant bound state open_session = other_session state s idle o other
   perform-other tenant bound state end_session = twice state idle closed
   perform-other tenant bound state begin = other_session state s (active [] (λ id. 0)) o other
@@ -93,10 +95,10 @@ module _ (s o : ℕ) (other : (o == s) ≡ false) where
   perform-other tenant bound state (add_rules name ids) = refl
   perform-other tenant bound state (del_rules name ids) = refl
   perform-other tenant bound state (query q) =
-      request-other state (query_locks q) (select_seen tenant state s q) (λ p. other_session state s (active p.changes p.marks) o other)
+      request-other bound state (query_locks q) (select_seen tenant state s q) (λ p. other_session state s (active p.changes p.marks) o other)
   perform-other tenant bound state (change statement) =
-      request-other state (statement_locks statement) (perform_change tenant state s statement)
-      (λ p. change-other state p (statement_changes (seen_with (setting_of tenant state s) no_transition p) statement))
+      request-other bound state (statement_locks statement) (perform_change tenant state s statement)
+      (λ p. change-other state p (statement_effect (setting_of tenant state s) no_transition statement p))
 
 -- ---- the own session
 
@@ -105,7 +107,7 @@ pub data IsInner : Result Resolved Refusal → Type 0 where
   refused : (e : Refusal) → IsInner (Err e)
   resolved : (r : Resolved) → is_edge r ≡ false → IsInner (Ok r)
 
-module _ (tenant bound : ℕ) (state : State) (s : ℕ) (was_open : is_open (session_at state s) ≡ true) where
+module _ (tenant : ℕ) (bound : Bound) (state : State) (s : ℕ) (was_open : is_open (session_at state s) ≡ true) where
   set_open : (before : State) (session : Session) → is_open session ≡ true → is_open (session_at (with_session before s session) s) ≡ true
   set_open before session h = ap is_open (own_session before s session) ∙ h
 
@@ -117,26 +119,26 @@ module _ (tenant bound : ℕ) (state : State) (s : ℕ) (was_open : is_open (ses
   stands-stays-open (goes_on progress) = set_open state (active progress.changes progress.marks) refl
   stands-stays-open taken_back = set_open state idle refl
 
-  change-open : (progress : Progress) (given : Result (List Change) Refusal) → is_open (session_at (change_seen state s progress given).0 s) ≡ true
+  change-open : (progress : Progress) (given : Result (List Change × Option ℕ) Refusal) → is_open (session_at (change_seen state s progress given).0 s) ≡ true
   change-open progress (Err refusal) = set_open state (active progress.changes progress.marks) refl
-  change-open progress (Ok changes) = set_open state (active (progress.changes ++ changes) progress.marks) refl
+  change-open progress (Ok effect) = set_open state (active (progress.changes ++ effect.0) progress.marks) refl
 
   request-open : (request : List (ℕ × LockMode)) (next : Progress → State × Reply) → ((p : Progress) → is_open (session_at (next p).0 s) ≡ true) →
-      is_open (session_at (with_request state s request next).0 s) ≡ true
+      is_open (session_at (with_request bound state s request next).0 s) ≡ true
   request-open request next h =
       elim (first_conflict state.locks s request) as (λ x.
       let r : State × Reply = elim x [
         | Some table ↦ (state, reply.No (Locked (name_at state.catalog.tables table)))
-        | None ↦ next (record (progress_of state s) { locks = with_locks state.locks s request })
+        | None ↦ next (record (progress_of bound.work state s) { locks = with_locks state.locks s request })
       ] in is_open (session_at r.0 s) ≡ true) [ Some table ↦ was_open | None ↦ h _ ]
 
   commit-open : is_open (session_at (perform tenant bound state s commit).0 s) ≡ true
   commit-open =
-      let p = process bound (setting_of tenant state s) (is_active state.catalog.rules) (progress_of state s) in stands-commit-open (standing p)
+      let p = process bound.considerations (setting_of tenant state s) (is_active state.catalog.rules) (progress_of bound.work state s) in stands-commit-open (standing p)
 
   process-open : (eligible : ℕ → Bool) → is_open (session_at (process_at tenant bound state s eligible stays).0 s) ≡ true
   process-open eligible =
-      let p = process bound (setting_of tenant state s) eligible (progress_of state s) in stands-stays-open (standing p)
+      let p = process bound.considerations (setting_of tenant state s) eligible (progress_of bound.work state s) in stands-stays-open (standing p)
 
   perform-open : (r : Resolved) → is_edge r ≡ false → is_open (session_at (perform tenant bound state s r).0 s) ≡ true
   perform-open open_session h = absurd (true≢false h)
@@ -161,7 +163,7 @@ module _ (tenant bound : ℕ) (state : State) (s : ℕ) (was_open : is_open (ses
   perform-open (query q) h = request-open (query_locks q) (select_seen tenant state s q) (λ p. set_open state (active p.changes p.marks) refl)
   perform-open (change statement) h =
       request-open (statement_locks statement) (perform_change tenant state s statement)
-      (λ p. change-open p (statement_changes (seen_with (setting_of tenant state s) no_transition p) statement))
+      (λ p. change-open p (statement_effect (setting_of tenant state s) no_transition statement p))
 
 -- ---- the walk of other commands gives neither
 
@@ -178,7 +180,7 @@ none_of_first : (r : Refusal) (b : Bool) (others : Option Refusal) → first_of 
 none_of_first r true others h = refl
 none_of_first r false others h = cc
 
-module _ (tenant bound : ℕ) (state : State) (s : ℕ) where
+module _ (tenant : ℕ) (bound : Bound) (state : State) (s : ℕ) where
   stays-open : (r : Option Refusal) (w : Result Resolved Refusal) → IsInner w → (r ≡ None → is_open (session_at state s) ≡ true) →
       is_open (session_at (outcome_of tenant bound state s r w).0 s) ≡ is_open (session_at state s)
   stays-open (Some r) w h opened = refl
@@ -225,7 +227,7 @@ module _ (tenant bound : ℕ) (state : State) (s : ℕ) where
 
 -- ---- a line, and a step
 
-module _ (tenant bound : ℕ) (state : State) (s : ℕ) where
+module _ (tenant : ℕ) (bound : Bound) (state : State) (s : ℕ) where
   pub own_line : (line : List ℕ) → is_open (session_at (reply_to tenant bound state s line).0 s) ≡ open_by (command_of line) (is_open (session_at state s))
   own_line line =
       elim (command_of line) as (λ c.

@@ -1,5 +1,5 @@
 -- A tenant with no session open, whose transactions have no times any more.
-use Rattle.std.proofs.Common.{◌≡◌, ◌∙◌, ℕ, true, false, List, [], ◌∷◌, length, refl, sym, ap, arith, IsTrue}
+use Rattle.std.proofs.Common.{None, ◌≡◌, ◌∙◌, ℕ, true, false, List, [], ◌∷◌, length, refl, sym, ap, arith, IsTrue}
 use Rattle.sb_value.specs.declared.change.Change.{Change}
 use Rattle.sb_rawlog.specs.Records.{Record, before}
 use Rattle.sb_rawlog.specs.Sessions.{changes}
@@ -37,7 +37,7 @@ settled_holds origin store state kept shut h = record {
   exclusive = h.exclusive;
   locks = h.locks;
   phases = h.phases;
-  candidates = λ s is. no-candidates kept s (progress_of state s) (none_changed (session_at state s) (shut s is)) state.catalog.rules;
+  candidates = λ s is. no-candidates kept s (progress_of None state s) (none_changed (session_at state s) (shut s is)) state.catalog.rules;
   rules = h.rules;
   ordered = h.ordered;
   rulesets = h.rulesets;

@@ -48,6 +48,15 @@ base_of origin state s = tables_after_all (others_of state s) origin
 
 -- ---- one session's transaction
 
+-- candidates stay where changes and marks do
+pub still-candidates : (old new : Kept) (o : ℕ) (p q : Progress) → ((r : ℕ) → is_candidate_of new o r ≡ is_candidate_of old o r) → q.changes ≡ p.changes → ((r : ℕ) → q.marks r ≡ p.marks r) →
+    (rules : List Rule) → AreCandidates old o p rules → AreCandidates new o q rules
+still-candidates old new o p q e cs ms [] h = tt
+still-candidates old new o p q e cs ms (rule ∷ rules) h = (
+  λ active triggered. e rule.id ∙ h.0 active ((λ i. is_triggered rule.triggers rule.table (drop (sym (ms rule.id) i) (sym cs i))) ∙ triggered),
+  still-candidates old new o p q e cs ms rules h.1,
+)
+
 module _ (laws : TablesAreShared) (origin : List Held) (store : Store) (state : State) (h : Holds origin store state) (s : ℕ) (is : IsTrue (is_session s)) where
   made-last : AreMade origin (others_of state s ++ changes_at state s) store.database.tables
   made-last =
@@ -57,7 +66,7 @@ module _ (laws : TablesAreShared) (origin : List Held) (store : Store) (state : 
   made-base = (laws.in_turn origin store.database.tables (others_of state s) (changes_at state s) made-last).0
 
   pub one-session : (records : List Record) (clock : ℕ) (index : List (List TableSets)) → Agrees store.database.id state store.database.transactions records clock index →
-      Represents (base_of origin state s) store.database s records clock (setting_of store.database.id state s) (progress_of state s)
+      Represents (base_of origin state s) store.database s records clock (setting_of store.database.id state s) (progress_of store.database.left state s)
   one-session records clock index a = record {
     who = refl;
     changes = a.transactions s is;
@@ -69,7 +78,8 @@ module _ (laws : TablesAreShared) (origin : List Held) (store : Store) (state : 
     made = (laws.in_turn origin store.database.tables (others_of state s) (changes_at state s) made-last).1;
     locks = h.locks;
     locked = h.locked s is;
-    candidates = h.candidates s is;
+    candidates = still-candidates store.database.transactions store.database.transactions s (progress_of None state s) (progress_of store.database.left state s) (λ r. refl) refl (λ r. refl) state.catalog.rules (h.candidates s is);
+    left = refl;
   }
 
 -- ---- what stays for the others
@@ -84,14 +94,6 @@ own-or-other s o P own other = by (nat_eq o s) refl
 pub still-locked : (old new : Locks) (o : ℕ) → ((t : ℕ) (m : LockMode) → new o t m ≡ old o t m) → (cs : List Change) → AreLocked old o cs → AreLocked new o cs
 still-locked old new o e [] h = tt
 still-locked old new o e (c ∷ cs) h = (e c.table Write ∙ h.0, still-locked old new o e cs h.1)
-
-pub still-candidates : (old new : Kept) (o : ℕ) (p q : Progress) → ((r : ℕ) → is_candidate_of new o r ≡ is_candidate_of old o r) → q.changes ≡ p.changes → ((r : ℕ) → q.marks r ≡ p.marks r) →
-    (rules : List Rule) → AreCandidates old o p rules → AreCandidates new o q rules
-still-candidates old new o p q e cs ms [] h = tt
-still-candidates old new o p q e cs ms (rule ∷ rules) h = (
-  λ active triggered. e rule.id ∙ h.0 active ((λ i. is_triggered rule.triggers rule.table (drop (sym (ms rule.id) i) (sym cs i))) ∙ triggered),
-  still-candidates old new o p q e cs ms rules h.1,
-)
 
 pub still-untriggered : (who other : Who) (old new : Kept) (rs more : List Record)
     → ((r : ℕ) → changes_between other (mark_of new other.session r) (tested_of new other.session r) more ≡ changes_between who (mark_of old who.session r) (tested_of old who.session r) rs)
@@ -151,7 +153,7 @@ pub record IsStepOf (s : ℕ) (old new : Store) (earlier after : List Record) (c
   pub past : ArePast new.database.transactions s later
   pub untriggered : AreUntriggered (who_of new.database.id s) new.database.transactions after state.catalog.rules
   pub locked : AreLocked next.locks s (changes_of (session_at next s))
-  pub candidates : AreCandidates new.database.transactions s (progress_of next s) state.catalog.rules
+  pub candidates : AreCandidates new.database.transactions s (progress_of None next s) state.catalog.rules
 
 module _ (s : ℕ) (is : IsTrue (is_session s)) (old new : Store) (earlier after : List Record) (clock later : ℕ) (index : List (List TableSets)) (state next : State) (origin : List Held) (h : Holds origin old state)
     (k : IsStepOf s old new earlier after clock later state next) where
@@ -176,9 +178,9 @@ module _ (s : ℕ) (is : IsTrue (is_session s)) (old new : Store) (earlier after
     locks = k.held;
     phases = λ o io. own-or-other s o (λ x. phase_at new.phases x ≡ phase_of (session_at next x)) k.phase
         (λ other. k.call.phases o other ∙ h.phases o io ∙ ap phase_of (sym (k.leads.sessions o other)));
-    candidates = λ o io. subst (AreCandidates new.database.transactions o (progress_of next o)) (sym k.leads.rules)
-        (own-or-other s o (λ x. AreCandidates new.database.transactions x (progress_of next x) state.catalog.rules) k.candidates
-        (λ other. still-candidates old.database.transactions new.database.transactions o (progress_of state o) (progress_of next o) (λ r. (k.call.transactions o r other).2)
+    candidates = λ o io. subst (AreCandidates new.database.transactions o (progress_of None next o)) (sym k.leads.rules)
+        (own-or-other s o (λ x. AreCandidates new.database.transactions x (progress_of None next x) state.catalog.rules) k.candidates
+        (λ other. still-candidates old.database.transactions new.database.transactions o (progress_of None state o) (progress_of None next o) (λ r. (k.call.transactions o r other).2)
         (ap changes_of (k.leads.sessions o other)) (λ r. ap (λ x. marks_of x r) (k.leads.sessions o other)) state.catalog.rules (h.candidates o io)));
     rules = ap (λ (d : Definitions). d.rules) k.call.definitions ∙ h.rules ∙ sym k.leads.rules;
     ordered = subst (λ (d : Definitions). AreOrdered d.order next.catalog.rules next.catalog.pairs) (sym k.call.definitions)

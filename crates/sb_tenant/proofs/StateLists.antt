@@ -2,6 +2,7 @@
 use Rattle.std.proofs.lemmas.Bool.{not-true}
 use Rattle.std.proofs.Common.{◌≡◌, ◌∙◌, ℕ, ◌+◌, Bool, true, false, not, ◌&&◌, ◌==◌, nat_eq, nat_lt, List, [], ◌∷◌, ◌++◌, length, filter, map, Option, Some, None, Result, Ok, Err, refl, sym, ap, subst, eqb-true, true≢false, IsTrue, IsFalse}
 use Rattle.std.proofs.lemmas.Option.{none-some}
+use Rattle.sb_tenant.specs.declared.bound.Bound.{Bound}
 use Rattle.sb_value.specs.declared.change.Change.{Change}
 use Rattle.sb_value.specs.declared.lock.LockMode.{LockMode}
 use Rattle.sb_value.specs.declared.refusal.Refusal.{Refusal}
@@ -17,7 +18,8 @@ use Rattle.sb_catalog.specs.Rules.{least_free, free_rule, rule_of, is_active}
 use Rattle.sb_catalog.specs.Uses.{is_used}
 use Rattle.sb_eval.specs.Laws.{ChangesAreProper}
 use Rattle.sb_eval.specs.Seen.{no_transition}
-use Rattle.sb_eval.specs.Statement.{query_locks, statement_locks, statement_changes}
+use Rattle.sb_eval.specs.Statement.{query_locks, statement_locks}
+use Rattle.sb_process.specs.Consider.{statement_effect}
 use Rattle.sb_process.specs.declared.Outcome.{Outcome}
 use Rattle.sb_process.specs.declared.Outcome.TheVariants.{Done, ByRule, ByError, ByLimit}
 use Rattle.sb_process.specs.Process.{process, stands_after}
@@ -48,6 +50,7 @@ use Rattle.sb_tenant.specs.Trail.{after_abort, is_no_memory, IsLegal, after_entr
 use Rattle.sb_tenant.specs.Walk.{outside_rules, unless, walk_lists, walk_new_parts, class_of, walk}
 use Rattle.sb_tenant.specs.WellFormed.{HasSoundLocks, StatesAreWellFormed}
 use Rattle.sb_tenant.proofs.CatalogLists.{statement-in, actions-in, has-more, sound-more, proper-more, sound-less, rules-less, rules-last, rules-without, rules-active, rules-altered, new-actions-in}
+use Rattle.sb_tenant.proofs.Charging.{effect-changes}
 use Rattle.sb_tenant.proofs.Keeping.{AreGoodActions, IsKept, process-keeps, step-keeps}
 use Rattle.sb_tenant.proofs.ListLaws.{IsIn, IsInOrder, order-kept, from-base, to-base, HasProperTables, proper-put, good-rules, proper-committed}
 use Rattle.sb_tenant.proofs.LockLaws.{begins-fit, sound-goes, sound-entry, opening-sound}
@@ -69,7 +72,7 @@ Fits state (alter_rule new) = (actions : List Action) → new.parts.1 ≡ Some a
 Fits state (drop_table id) = IsFalse (is_used state.catalog.rules id) × IsCalm state
 Fits state other = Unit {0}
 
-module _ (laws : ChangesAreProper) (tenant bound : ℕ) (state : State) (h : HasSoundLocks state) (g : HasProperTables state) (s : ℕ) (is : IsTrue (is_session s)) where
+module _ (laws : ChangesAreProper) (tenant : ℕ) (bound : Bound) (state : State) (h : HasSoundLocks state) (g : HasProperTables state) (s : ℕ) (is : IsTrue (is_session s)) where
   abbrev tables : List Entry
   tables = state.catalog.tables
 
@@ -79,8 +82,8 @@ module _ (laws : ChangesAreProper) (tenant bound : ℕ) (state : State) (h : Has
   kept : IsKept (setting_of tenant state s) (IsIn tables) InOrder
   kept = order-kept laws tenant state h s is g.tables
 
-  begins-order : InOrder (progress_of state s)
-  begins-order = (begins-fit state h s, to-base laws tenant state h s is g.tables (progress_of state s) (begins-fit state h s) (g.lists s is))
+  begins-order : (left : Option ℕ) → InOrder (progress_of left state s)
+  begins-order left = (begins-fit state h s left, to-base laws tenant state h s is g.tables (progress_of left state s) (begins-fit state h s left) (g.lists s is))
 
   proper-goes : (p : Progress) → InOrder p → HasProperTables (with_progress state s p)
   proper-goes p k = proper-put state g s p.locks state.steps (active p.changes p.marks) (from-base laws tenant state h s is g.tables p k.0 k.1)
@@ -98,22 +101,22 @@ module _ (laws : ChangesAreProper) (tenant bound : ℕ) (state : State) (h : Has
   proper-process : (eligible : ℕ → Bool) (finish : State → State) → ((p : Progress) → InOrder p → HasProperTables (finish (with_progress state s p))) → HasProperTables (process_at tenant bound state s eligible finish).0
   proper-process eligible finish finishes =
       let setting = setting_of tenant state s in
-      let p = process bound setting eligible (progress_of state s) in
-      proper-stands finish finishes p.outcome p.progress (process-keeps setting (IsIn tables) InOrder kept g.rules bound eligible (progress_of state s) begins-order)
+      let p = process bound.considerations setting eligible (progress_of bound.work state s) in
+      proper-stands finish finishes p.outcome p.progress (process-keeps setting (IsIn tables) InOrder kept g.rules bound.considerations eligible (progress_of bound.work state s) (begins-order bound.work))
 
   abbrev wanted : List (ℕ × LockMode) → Progress
-  wanted request = record (progress_of state s) { locks = with_locks state.locks s request }
+  wanted request = record (progress_of bound.work state s) { locks = with_locks state.locks s request }
 
-  proper-request : (request : List (ℕ × LockMode)) (next : Progress → State × Reply) → (InOrder (wanted request) → HasProperTables (next (wanted request)).0) → HasProperTables (with_request state s request next).0
+  proper-request : (request : List (ℕ × LockMode)) (next : Progress → State × Reply) → (InOrder (wanted request) → HasProperTables (next (wanted request)).0) → HasProperTables (with_request bound state s request next).0
   proper-request request next f = by (first_conflict state.locks s request) refl
     where
       by : (o : Option ℕ) → first_conflict state.locks s request ≡ o →
           HasProperTables (elim o as (λ _. State × Reply) [ Some table ↦ (state, reply.No (refusal.Locked (name_at state.catalog.tables table))) | None ↦ next (wanted request) ]).0
       by (Some table) e = g
-      by None e = f (kept.request request (progress_of state s) e begins-order)
+      by None e = f (kept.request request (progress_of bound.work state s) e (begins-order bound.work))
 
   proper-change : (statement : Statement) → IsIn tables statement → InOrder (wanted (statement_locks statement)) → HasProperTables (perform_change tenant state s statement (wanted (statement_locks statement))).0
-  proper-change statement there k = by (statement_changes (seen_with setting no_transition p) statement) refl
+  proper-change statement there k = by (statement_effect setting no_transition statement p) refl
     where
       setting : Setting
       setting = setting_of tenant state s
@@ -121,9 +124,11 @@ module _ (laws : ChangesAreProper) (tenant bound : ℕ) (state : State) (h : Has
       p : Progress
       p = wanted (statement_locks statement)
 
-      by : (r : Result (List Change) Refusal) → statement_changes (seen_with setting no_transition p) statement ≡ r → HasProperTables (change_seen state s p r).0
+      by : (r : Result (List Change × Option ℕ) Refusal) → statement_effect setting no_transition statement p ≡ r → HasProperTables (change_seen state s p r).0
       by (Err e) given = proper-goes p k
-      by (Ok changes) given = proper-goes (record p { changes = p.changes ++ changes }) (kept.change no_transition statement p changes there (target-asked state.locks s statement) k given)
+      by (Ok effect) given =
+          proper-goes (record p { changes = p.changes ++ effect.0 })
+          (kept.change no_transition statement p effect.0 there (target-asked state.locks s statement) k (effect-changes (seen_with setting no_transition p) setting.rules statement p.left effect given))
 
   proper-perform : (r : Resolved) → Fits state r → is_edge r ≡ false → HasProperTables (perform tenant bound state s r).0
   proper-perform open_session fits e = absurd (true≢false e)
@@ -262,7 +267,7 @@ calm-of state s e o io = by (nat_eq o s) refl
 
 -- ---- steps and trails
 
-module _ (laws : ChangesAreProper) (there : TablesAreThere) (tenant bound : ℕ) (state : State) (h : HasSoundLocks state) (g : HasProperTables state) (s : ℕ) (is : IsTrue (is_session s)) where
+module _ (laws : ChangesAreProper) (there : TablesAreThere) (tenant : ℕ) (bound : Bound) (state : State) (h : HasSoundLocks state) (g : HasProperTables state) (s : ℕ) (is : IsTrue (is_session s)) where
   proper-outcome : (r : Option Refusal) (w : Result Resolved Refusal) → IsInner w → (r ≡ None → Gives state w) → HasProperTables (outcome_of tenant bound state s r w).0
   proper-outcome (Some r) w k f = g
   proper-outcome None w (refused e) f = g
@@ -300,7 +305,7 @@ module _ (laws : ChangesAreProper) (there : TablesAreThere) (tenant bound : ℕ)
       by true = proper-steps (rolled_back state s) (proper-put state g s (released state.locks s) state.steps idle tt) (state.steps + 1)
       by false = proper-steps state g (state.steps + 1)
 
-module _ (laws : ChangesAreProper) (there : TablesAreThere) (tenant bound : ℕ) where
+module _ (laws : ChangesAreProper) (there : TablesAreThere) (tenant : ℕ) (bound : Bound) where
   proper-entry : (state : State) (entry : Line) → IsTrue (is_session entry.session) → HasSoundLocks state → HasProperTables state → HasProperTables (after_entry tenant bound state entry)
   proper-entry state entry is h g = by (is_no_memory entry.reply)
     where
@@ -317,4 +322,4 @@ module _ (laws : ChangesAreProper) (there : TablesAreThere) (tenant bound : ℕ)
   pub states_are_well_formed : StatesAreWellFormed tenant bound
   states_are_well_formed trail state p =
       let whole = proper-legal opening trail state p opening-sound (record { tables = λ t. (tt, tt); rules = tt; lists = λ s is. tt }) in
-      (whole.0, λ s is. to-base laws tenant state whole.0 s is whole.1.tables (progress_of state s) (begins-fit state whole.0 s) (whole.1.lists s is))
+      (whole.0, λ s is. to-base laws tenant state whole.0 s is whole.1.tables (progress_of None state s) (begins-fit state whole.0 s None) (whole.1.lists s is))

@@ -1,5 +1,5 @@
 -- A state whose tuples are numbered otherwise, with paths for what is the same.
-use Rattle.std.proofs.Common.{◌≡◌, ◌∙◌, ℕ, Bool, true, false, not, ◌&&◌, ◌||◌, cond, nat_eq, List, [], ◌∷◌, ◌++◌, map, filter, refl, sym, subst, IsTrue, true≢false}
+use Rattle.std.proofs.Common.{Option, ◌≡◌, ◌∙◌, ℕ, Bool, true, false, not, ◌&&◌, ◌||◌, cond, nat_eq, List, [], ◌∷◌, ◌++◌, map, filter, refl, sym, subst, IsTrue, true≢false}
 use Rattle.std.specs.List.{flat_map, list_any}
 use Rattle.std.proofs.lemmas.List.{map-append}
 use Rattle.sb_value.specs.declared.change.Change.{Change}
@@ -180,11 +180,12 @@ module _ (tenant : ℕ) (n : Numbering) (one other : State) (made : IsMade tenan
     base = without-same s i;
   }
 
-  pub progress-same : (s : ℕ) → IsTrue (is_session s) → progress_of other s ≡ renumbered_progress tenant n (progress_of one s)
-  progress-same s is = λ i. record {
+  pub progress-same : (left : Option ℕ) (s : ℕ) → IsTrue (is_session s) → progress_of left other s ≡ renumbered_progress tenant n (progress_of left one s)
+  progress-same left s is = λ i. record {
     changes = changes-at s is i;
     marks = marks i;
     locks = made.locks i;
+    left = left;
   }
     where
       marks : marks_of (session_at other s) ≡ marks_of (session_at one s)

@@ -1,6 +1,7 @@
 -- A line that is answered in memory is the tenant's next entry.
 use Rattle.std.proofs.Common.{◌≡◌, ℕ, ◌+◌, ◌-◌, ◌^◌, ◌≤◌, true, false, not, ◌&&◌, nat_le, List, [], ◌∷◌, ◌++◌, length, Option, Some, None, inl, inr, Ok, refl, sym, ap, ◌∙◌, subst, arith, codes, length-append, vec_len, vec_capacity}
 use Rattle.std.proofs.Math.Bool.{and-false}
+use Rattle.sb_tenant.specs.declared.bound.Bound.{Bound}
 use Rattle.sb_value.specs.declared.refusal.Refusal.TheVariants as refusal
 use Rattle.sb_syntax.specs.Text.{command_of}
 use Rattle.sb_syntax.specs.Tree.{Command, open_session}
@@ -39,7 +40,7 @@ open_is_open = refl
 
 -- ---- the lines `end` and `open`
 
-module _ (id bound : ℕ) (st : State) (s : ℕ) where
+module _ (id : ℕ) (bound : Bound) (st : State) (s : ℕ) where
   abbrev by_command : Option Command → State × Reply
   by_command c = elim c [ None ↦ (st, reply.No refusal.Syntax) | Some command ↦ reply_to_command id bound st s command ]
 
@@ -81,13 +82,13 @@ restepped store records clock index st n (h, agrees) =
     (restepped_store store st n h, record { transactions = agrees.transactions; marks = agrees.marks; past = agrees.past; untriggered = agrees.untriggered; indexed = agrees.indexed })
 
 -- a trail with one more entry, and the state after it, for which memory, the log and the index stand
-pub record IsEntered (id bound : ℕ) (trail : List Entry) (s : ℕ) (line : List ℕ) (told : Reply) (store : Store) (records : List Record) (clock : ℕ) (index : List (List TableSets)) (after : State) : Type 0 where
+pub record IsEntered (id : ℕ) (bound : Bound) (trail : List Entry) (s : ℕ) (line : List ℕ) (told : Reply) (store : Store) (records : List Record) (clock : ℕ) (index : List (List TableSets)) (after : State) : Type 0 where
   pub legal : IsTrail id bound (trail ++ entry_of s line told ∷ [])
   pub state : state_of id bound (trail ++ entry_of s line told ∷ []) ≡ after
   pub next : IsNext id bound (state_of id bound trail) (entry_of s line told) after
   pub stands : StandFor store records clock index after
 
-module _ (id bound : ℕ) (trail : List Entry) (legal : IsTrail id bound trail) (s : ℕ) (line : List ℕ) (is_one : is_session s ≡ true) (room : is_full_for (state_of id bound trail) s line ≡ false)
+module _ (id : ℕ) (bound : Bound) (trail : List Entry) (legal : IsTrail id bound trail) (s : ℕ) (line : List ℕ) (is_one : is_session s ≡ true) (room : is_full_for (state_of id bound trail) s line ≡ false)
     (told : Reply) (store : Store) (records : List Record) (clock : ℕ) (index : List (List TableSets)) where
   abbrev now : State
   now = state_of id bound trail
@@ -132,7 +133,7 @@ module _ (t new : Tenant) (same : IsSame t new) (s : ℕ) (line : List ℕ) (tol
   pub new_legal : IsLegal new
   new_legal =
       subst (λ (es : List Entry). IsTrail new.id new.bound es) (sym longer)
-      (subst (λ (b : ℕ). IsTrail new.id b (t.trail ++ entry_of s line told ∷ [])) (sym same.1)
+      (subst (λ (b : Bound). IsTrail new.id b (t.trail ++ entry_of s line told ∷ [])) (sym same.1)
       (subst (λ (i : ℕ). IsTrail i t.bound (t.trail ++ entry_of s line told ∷ [])) (sym same.0) e.legal))
 
   pub new_agrees : Agrees store.database.id (state new) store.database.transactions records clock index
@@ -183,7 +184,7 @@ pub none_before : (time : ℕ) → length (before time []) ≡ 0
 unfolding before
 none_before time = refl
 
-pub new_in_step : (id bound : ℕ) (kept : Kept) → ((s r : ℕ) → mark_of kept s r ≡ 0) → ((s r : ℕ) → tested_of kept s r ≡ 0) → (records : List Record) (clock : ℕ) (index : List (List TableSets)) → HoldNothing id records index →
+pub new_in_step : (id : ℕ) (bound : Bound) (kept : Kept) → ((s r : ℕ) → mark_of kept s r ≡ 0) → ((s r : ℕ) → tested_of kept s r ≡ 0) → (records : List Record) (clock : ℕ) (index : List (List TableSets)) → HoldNothing id records index →
     Agrees id (state_of id bound []) kept records clock index
 new_in_step id bound kept marks tested records clock index nothing = record {
   transactions = λ s is_one. ap changes (nothing.0 s);
@@ -202,7 +203,7 @@ module _ (t new : Inside) (r : IsRemembered t) (same : IsSame (seen t) (seen new
   remembered legal after now_is holds by few rises places ends = record {
     legal = legal;
     holds = subst (λ (st : State). (origin : List Held) × Holds origin new.store st) (sym now_is) holds;
-    bound = subst (λ (b : ℕ). b ≤ 1000) (sym same.1) r.bound;
+    bound = subst (λ (b : Bound). b.considerations ≤ 1000) (sym same.1) r.bound;
     numbers = λ m enough.
         grown t.store.database.tables new.store.database.tables (length t.trail.items) by few r.numbers rises m
         (subst (λ (k : ℕ). number_limit k ≤ m) (ap length longer ∙ length-append (seen t).trail (entry_of s line told ∷ [])) enough);
@@ -216,7 +217,7 @@ pub still_remembered : (t new : Inside) → IsRemembered t → new.bound ≡ t.b
 still_remembered t new r bound volume store items len capacity ends = record {
   legal = subst IsLegal (sym seen_is) r.legal;
   holds = subst (λ (x : Store × Tenant). (origin : List Held) × Holds origin x.0 (state x.1)) (λ i. (sym store i, sym seen_is i)) r.holds;
-  bound = subst (λ (b : ℕ). b ≤ 1000) (sym bound) r.bound;
+  bound = subst (λ (b : Bound). b.considerations ≤ 1000) (sym bound) r.bound;
   numbers = λ m enough. subst (λ (kept : Store). NumbersBelow m kept.database.tables) (sym store) (r.numbers m (subst (λ (es : List Entry). number_limit (length es) ≤ m) items enough));
   places = let same_count = ap (λ (v : Tenant). open_count (state v)) seen_is in omega (arith, same_count, r.places);
   ends = let same_count = ap (λ (v : Tenant). open_count (state v)) seen_is in omega (arith, same_count, r.ends);
@@ -282,7 +283,7 @@ module _ (t new : Inside) (r : IsRemembered t) (same : IsSame (seen t) (seen new
   opened_legal =
       let trail = extended (seen t).id (seen t).bound (seen t).trail r.legal s (codes "open") reply.Ok now_open open_next in
       subst (λ (es : List Entry). IsTrail (seen new).id (seen new).bound es) (sym longer)
-      (subst (λ (b : ℕ). IsTrail (seen new).id b ((seen t).trail ++ entry_of s (codes "open") reply.Ok ∷ [])) (sym same.1)
+      (subst (λ (b : Bound). IsTrail (seen new).id b ((seen t).trail ++ entry_of s (codes "open") reply.Ok ∷ [])) (sym same.1)
       (subst (λ (i : ℕ). IsTrail i (seen t).bound ((seen t).trail ++ entry_of s (codes "open") reply.Ok ∷ [])) (sym same.0) trail))
 
   pub opened_made : (number : ℕ) → number ≡ length new.trail.items → MakesStep (seen t) s (codes "open") (record { number = Some number; reply = reply.Ok }) (seen new)

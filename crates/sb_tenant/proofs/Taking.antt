@@ -112,6 +112,7 @@ taken-kept setting first = record {
   mark = λ rule p h. h;
   request = λ list p e h. taken-request setting.who.session first p.locks list e h;
   change = λ tables statement p changes good asked h e. h;
+  left = λ left p h. h;
 }
 
 pub process-takes : (setting : Setting) (first : Locks) (n : ℕ) (eligible : ℕ → Bool) (p : Progress) → Taken setting.who.session first p.locks → Taken setting.who.session first (process n setting eligible p).progress.locks

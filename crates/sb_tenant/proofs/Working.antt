@@ -1,6 +1,7 @@
 -- Commands in a transaction: the walk over the tables as they are seen is the one over the committed tables.
 use Rattle.std.proofs.Common.{◌≡◌, ◌∙◌, ◌⊎◌, ℕ, Bool, true, false, nat_eq, cond, List, [], ◌∷◌, map, refl, sym, ap, subst, inl, inr}
 use Rattle.std.specs.Prelude.{None, Result, Ok, Err}
+use Rattle.sb_tenant.specs.declared.bound.Bound.{Bound}
 use Rattle.sb_value.specs.declared.change.Change.{Change}
 use Rattle.sb_value.specs.declared.change.ChangeKind.{ChangeKind}
 use Rattle.sb_value.specs.declared.change.ChangeKind.TheVariants.{Inserted, Deleted, Updated}
@@ -116,13 +117,13 @@ module _ (store : Store) (records : List Record) (clock : ℕ) (index : List (Li
 -- ---- what is performed
 
 -- the walk gave this, and it is performed
-pub performs_as : (new : Store) (records : List Record) (clock : ℕ) (index : List (List TableSets)) (state : State) (tenant bound s : ℕ) (w v : Result Resolved Refusal) (got : Reply) → w ≡ v
+pub performs_as : (new : Store) (records : List Record) (clock : ℕ) (index : List (List TableSets)) (state : State) (tenant : ℕ) (bound : Bound) (s : ℕ) (w v : Result Resolved Refusal) (got : Reply) → w ≡ v
     → Performs new records clock index state s (outcome_of tenant bound state s None v) got → Performs new records clock index state s (outcome_of tenant bound state s None w) got
 performs_as new records clock index state tenant bound s w v got e h =
     subst (λ (r : Result Resolved Refusal). Performs new records clock index state s (outcome_of tenant bound state s None r) got) (sym e) h
 
 -- what the walk refuses is answered so, and nothing changes
-pub refusal_meant : (stands : State → Type 0) (tenant bound s : ℕ) (state : State) → stands state → (w : Result Resolved Refusal) (e : Refusal) → (w ≡ Err e) ⊎ (e ≡ refusal.NoMemory)
+pub refusal_meant : (stands : State → Type 0) (tenant : ℕ) (bound : Bound) (s : ℕ) (state : State) → stands state → (w : Result Resolved Refusal) (e : Refusal) → (w ≡ Err e) ⊎ (e ≡ refusal.NoMemory)
     → Refuses stands (outcome_of tenant bound state s None w) e
 refusal_meant stands tenant bound s state st w e (inl h) =
     subst (λ (r : Result Resolved Refusal). Refuses stands (outcome_of tenant bound state s None r) e) (sym h) (inl (refl, st))

@@ -1,5 +1,6 @@
 -- Promise: laws of alike tenants, as statements.
 use Rattle.std.specs.Prelude.{◌≡◌, ◌≤◌, ℕ, ◌+◌, List, length, map, All, IsTrue}
+use Rattle.sb_tenant.specs.declared.bound.Bound.{Bound}
 use Rattle.sb_tenant.specs.declared.reply.Entry.{Entry}
 use Rattle.sb_tenant.specs.Alike.{AreAlikeWithSessions}
 use Rattle.sb_tenant.specs.Limits.{is_session, trail_limit}
@@ -7,7 +8,7 @@ use Rattle.sb_tenant.specs.State.{State, opening}
 use Rattle.sb_tenant.specs.Trail.{IsLegal, answers, state_after}
 use Rattle.sb_tenant.specs.AlikeTenants.{AreAlike}
 
-module _ (first second bound : ℕ) where
+module _ (first second : ℕ) (bound : Bound) where
   -- the same replies to the same lines, as long as neither trail is full, and alike states after them
   abbrev pub AlikeAnswerAlike : Type 0
   AlikeAnswerAlike =

@@ -1,6 +1,7 @@
 -- Machine: the commands that define what has a name: tables, rules and rulesets. They are done where no session has a transaction.
 use Rattle.std.specs.Prelude.{◌≡◌, ◌⊎◌, ℕ, ◌+◌, ◌≤◌, length, unwrap_or, [], Bool, true, false, not, ◌&&◌, ◌==◌, List, Option, None, Result, Ok, Err, IsTrue, IsFalse}
 use Rattle.std.specs.List.{list_any}
+use Rattle.sb_tenant.specs.declared.bound.Bound.{Bound}
 use Rattle.sb_value.specs.declared.refusal.Refusal.{Refusal}
 use Rattle.sb_value.specs.declared.refusal.Refusal.TheVariants.{NoMemory}
 use Rattle.sb_value.specs.Locks.{sessions}
@@ -58,7 +59,7 @@ told (Ok u) = reply.Ok
 told (Err refusal) = reply.No refusal
 
 -- what such a command is to do where its session refuses nothing: the walk refuses it, or it is done
-abbrev pub defining : ℕ → ℕ → State → ℕ → Command → State × Reply
+abbrev pub defining : ℕ → Bound → State → ℕ → Command → State × Reply
 defining tenant bound state s command = outcome_of tenant bound state s None (walk state.catalog command)
 
 -- it is answered as it is meant; or memory ran out, and what stood still stands
@@ -69,7 +70,7 @@ IsDone new records clock index before meant result =
 
 -- it is done whatever the log has of others; the tenant keeps its number, the index what it has of other tenants
 pub record Defines (old new : Store) (before after : List (List TableSets)) (command : Command) (result : Result (Unit {0}) Refusal) : Type 0 where
-  pub done : (records : List Record) (clock : ℕ) (state : State) (tenant bound s : ℕ) → StandFor old records clock before state
+  pub done : (records : List Record) (clock : ℕ) (state : State) (tenant : ℕ) (bound : Bound) (s : ℕ) → StandFor old records clock before state
       → IsDone new records clock after state (defining tenant bound state s command) result
   pub id : new.database.id ≡ old.database.id
   pub numbers : (n : ℕ) → NumbersBelow n old.database.tables → NumbersBelow (n + 2) new.database.tables

@@ -1,5 +1,6 @@
 -- Promise: what a resolved command does, and its reply.
-use Rattle.std.specs.Prelude.{ℕ, Bool, true, false, ◌&&◌, ◌==◌, List, [], ◌++◌, map, length, Some, None, Result, Ok, Err}
+use Rattle.std.specs.Prelude.{ℕ, Bool, true, false, ◌&&◌, ◌==◌, List, [], ◌++◌, map, length, Option, Some, None, Result, Ok, Err}
+use Rattle.sb_tenant.specs.declared.bound.Bound.{Bound}
 use Rattle.sb_value.specs.declared.value.Value.{Value}
 use Rattle.sb_value.specs.declared.change.Change.{Change}
 use Rattle.sb_value.specs.declared.lock.LockMode.{LockMode}
@@ -11,7 +12,8 @@ use Rattle.sb_value.specs.Locks.{first_conflict, with_locks}
 use Rattle.sb_check.specs.Condition.{Query}
 use Rattle.sb_check.specs.declared.tree.Statement.{Statement}
 use Rattle.sb_eval.specs.Seen.{no_transition}
-use Rattle.sb_eval.specs.Statement.{query_locks, statement_locks, select_rows, statement_changes}
+use Rattle.sb_eval.specs.Statement.{query_locks, statement_locks}
+use Rattle.sb_process.specs.Consider.{statement_effect, select_within}
 use Rattle.sb_process.specs.Setting.{Progress, seen_with}
 use Rattle.sb_process.specs.Process.{Processing, Standing, goes_on, taken_back, process, standing}
 use Rattle.sb_process.specs.declared.Outcome.{Outcome}
@@ -34,26 +36,26 @@ reply_rows (Ok rows) = reply.Rows rows
 -- a select with its locks taken
 abbrev pub select_seen : ℕ → State → ℕ → Query → Progress → State × Reply
 select_seen tenant state s q progress =
-    (with_progress state s progress, reply_rows (select_rows (seen_with (setting_of tenant state s) no_transition progress) q))
+    (with_progress state s progress, reply_rows (select_within (seen_with (setting_of tenant state s) no_transition progress) q progress.left))
 
 -- a refused statement keeps its locks
-abbrev pub change_seen : State → ℕ → Progress → Result (List Change) Refusal → State × Reply
+abbrev pub change_seen : State → ℕ → Progress → Result (List Change × Option ℕ) Refusal → State × Reply
 change_seen state s progress (Err refusal) = (with_progress state s progress, reply.No refusal)
-change_seen state s progress (Ok changes) =
-    (with_progress state s (record progress { changes = progress.changes ++ changes }), reply.Count (length changes))
+change_seen state s progress (Ok effect) =
+    (with_progress state s (record progress { changes = progress.changes ++ effect.0 }), reply.Count (length effect.0))
 
 -- the locks are asked for first; a conflict takes none
-abbrev pub with_request : State → ℕ → List (ℕ × LockMode) → (Progress → State × Reply) → State × Reply
-with_request state s request next =
+abbrev pub with_request : Bound → State → ℕ → List (ℕ × LockMode) → (Progress → State × Reply) → State × Reply
+with_request bound state s request next =
     elim (first_conflict state.locks s request) [
       | Some table ↦ (state, reply.No (Locked (name_at state.catalog.tables table)))
-      | None ↦ next (record (progress_of state s) { locks = with_locks state.locks s request })
+      | None ↦ next (record (progress_of bound.work state s) { locks = with_locks state.locks s request })
     ]
 
 -- a statement with its locks taken
 abbrev pub perform_change : ℕ → State → ℕ → Statement → Progress → State × Reply
 perform_change tenant state s statement progress =
-    change_seen state s progress (statement_changes (seen_with (setting_of tenant state s) no_transition progress) statement)
+    change_seen state s progress (statement_effect (setting_of tenant state s) no_transition statement progress)
 
 -- ---- assertion points
 
@@ -79,9 +81,9 @@ after_processing state s finish p =
     (stands_as state s finish (standing p), reply_of state.catalog p.outcome (named state.catalog p.trace))
 
 -- the rules that are eligible here are processed
-abbrev pub process_at : ℕ → ℕ → State → ℕ → (ℕ → Bool) → (State → State) → State × Reply
+abbrev pub process_at : ℕ → Bound → State → ℕ → (ℕ → Bool) → (State → State) → State × Reply
 process_at tenant bound state s eligible finish =
-    after_processing state s finish (process bound (setting_of tenant state s) eligible (progress_of state s))
+    after_processing state s finish (process bound.considerations (setting_of tenant state s) eligible (progress_of bound.work state s))
 
 -- after `process` the transaction goes on
 abbrev pub stays : State → State
@@ -94,7 +96,7 @@ abbrev pub defined : State → Catalog → State × Reply
 defined state catalog = (record state { catalog = catalog }, reply.Ok)
 
 -- what each command does
-abbrev pub perform : ℕ → ℕ → State → ℕ → Resolved → State × Reply
+abbrev pub perform : ℕ → Bound → State → ℕ → Resolved → State × Reply
 perform tenant bound state s open_session = (with_session state s idle, reply.Ok)
 perform tenant bound state s end_session = (with_session (rolled_back state s) s closed, reply.Ok)
 perform tenant bound state s begin = (with_session state s (active [] (λ id. 0)), reply.Ok)
@@ -114,5 +116,5 @@ perform tenant bound state s (create_ruleset name) = defined state (with_ruleset
 perform tenant bound state s (drop_ruleset name) = defined state (without_ruleset state.catalog name)
 perform tenant bound state s (add_rules name ids) = defined state (with_members state.catalog name ids)
 perform tenant bound state s (del_rules name ids) = defined state (without_members state.catalog name ids)
-perform tenant bound state s (query q) = with_request state s (query_locks q) (select_seen tenant state s q)
-perform tenant bound state s (change statement) = with_request state s (statement_locks statement) (perform_change tenant state s statement)
+perform tenant bound state s (query q) = with_request bound state s (query_locks q) (select_seen tenant state s q)
+perform tenant bound state s (change statement) = with_request bound state s (statement_locks statement) (perform_change tenant state s statement)

@@ -1,5 +1,6 @@
 -- Promise: what a refused line changes: the trail, and the locks that its statement had taken.
 use Rattle.std.specs.Prelude.{◌≡◌, ◌⊎◌, ℕ, List, Option, Some, None, Result, Ok, option_and_then}
+use Rattle.sb_tenant.specs.declared.bound.Bound.{Bound}
 use Rattle.sb_value.specs.declared.lock.LockMode.{LockMode}
 use Rattle.sb_value.specs.declared.refusal.Refusal.{Refusal}
 use Rattle.sb_value.specs.declared.refusal.Refusal.TheVariants.{TooBig, Overflow, TooManyRows}
@@ -37,7 +38,7 @@ TakesLocks before s line after =
     (request : List (ℕ × LockMode)) × (request_in before line ≡ Some request) × (first_conflict before.locks s request ≡ None)
     × (after ≡ record before { locks = with_locks before.locks s request; steps = after.steps })
 
-module _ (tenant bound : ℕ) where
+module _ (tenant : ℕ) (bound : Bound) where
   -- a refused line changes no table, rule or ruleset, and no session; it takes locks where it is refused behind them alone
   abbrev pub RefusalsTakeLocksAtMost : Type 0
   RefusalsTakeLocksAtMost =

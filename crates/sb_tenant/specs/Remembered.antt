@@ -18,7 +18,7 @@ number_limit steps = 2 + 32768000 * steps
 pub record IsRemembered (t : Inside) : Type 0 where
   pub legal : IsLegal (seen t)
   pub holds : (origin : List Held) × Holds origin t.store (state (seen t))
-  pub bound : t.bound ≤ 1000
+  pub bound : t.bound.considerations ≤ 1000
   pub numbers : (n : ℕ) → number_limit (length t.trail.items) ≤ n → NumbersBelow n t.store.database.tables
   pub places : vec_len t.trail + open_count (state (seen t)) ≤ vec_capacity t.trail
   pub ends : open_count (state (seen t)) ≤ t.end_lines

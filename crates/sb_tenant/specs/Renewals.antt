@@ -1,5 +1,6 @@
 -- Promise: a tenant whose trail is renewed answers as an engine whose trail never fills.
 use Rattle.std.specs.Prelude.{◌≡◌, ◌≤◌, ◌<◌, ℕ, ◌+◌, List, [], ◌∷◌, ◌++◌, map, flat_map, length, codes, Some, All, IsTrue}
+use Rattle.sb_tenant.specs.declared.bound.Bound.{Bound}
 use Rattle.sb_tenant.specs.declared.reply.Answer.{Answer}
 use Rattle.sb_tenant.specs.declared.reply.Entry.{Entry}
 use Rattle.sb_tenant.specs.declared.reply.Reply.{Reply}
@@ -18,7 +19,7 @@ pub record VolumeRun : Type 0 where
 abbrev pub lines_of : List VolumeRun → List (ℕ × List ℕ)
 lines_of volumes = flat_map (λ v. v.lines) volumes
 
-module _ (tenant bound : ℕ) where
+module _ (tenant : ℕ) (bound : Bound) where
   -- ---- the engine whose trail never fills
 
   -- its steps are those of a tenant that has made none

@@ -1,5 +1,6 @@
 -- Machine: what a tenant keeps in memory, against its state.
-use Rattle.std.specs.Prelude.{◌≡◌, ◌⊎◌, ℕ, ◌+◌, Bool, false, ◌==◌, List, flat_map, slice_index_or, Result, Ok, Err, IsTrue, IsFalse}
+use Rattle.std.specs.Prelude.{◌≡◌, ◌⊎◌, ℕ, ◌+◌, Bool, false, ◌==◌, List, flat_map, slice_index_or, None, Result, Ok, Err, IsTrue, IsFalse}
+use Rattle.sb_tenant.specs.declared.bound.Bound.{Bound}
 use Rattle.sb_value.specs.declared.change.Change.{Change}
 use Rattle.sb_value.specs.declared.lock.LockMode.{LockMode}
 use Rattle.sb_value.specs.declared.lock.LockMode.TheVariants.{Write}
@@ -55,7 +56,7 @@ pub record Holds (origin : List Held) (store : Store) (state : State) : Type 0 w
   pub exclusive : AreExclusive state.locks
   pub locks : (s t : ℕ) (m : LockMode) → held store.database.locks s t m ≡ state.locks s t m
   pub phases : (s : ℕ) → IsTrue (is_session s) → phase_at store.phases s ≡ phase_of (session_at state s)
-  pub candidates : (s : ℕ) → IsTrue (is_session s) → AreCandidates store.database.transactions s (progress_of state s) state.catalog.rules
+  pub candidates : (s : ℕ) → IsTrue (is_session s) → AreCandidates store.database.transactions s (progress_of None state s) state.catalog.rules
   pub rules : store.definitions.rules ≡ state.catalog.rules
   pub ordered : AreOrdered store.definitions.order state.catalog.rules state.catalog.pairs
   pub rulesets : store.definitions.rulesets ≡ state.catalog.rulesets
@@ -96,9 +97,9 @@ Comes reply stands meant (Ok x) = (meant.1 ≡ reply x) × stands meant.0
 Comes reply stands meant (Err refusal) = Refuses stands meant refusal
 
 -- the outcome and the verdicts of an assertion point, and what stands after it
-pub record Finds (tenant : ℕ) (new : Store) (records : List Record) (clock : ℕ) (index : List (List TableSets)) (before : State) (s bound : ℕ) (eligible : ℕ → Bool) (found : Processed) : Type 0 where
-  pub outcome : found.outcome ≡ (process bound (setting_of tenant before s) eligible (progress_of before s)).outcome
-  pub trace : found.trace ≡ (process bound (setting_of tenant before s) eligible (progress_of before s)).trace
+pub record Finds (tenant : ℕ) (new : Store) (records : List Record) (clock : ℕ) (index : List (List TableSets)) (before : State) (s : ℕ) (bound : Bound) (eligible : ℕ → Bool) (found : Processed) : Type 0 where
+  pub outcome : found.outcome ≡ (process bound.considerations (setting_of tenant before s) eligible (progress_of bound.work before s)).outcome
+  pub trace : found.trace ≡ (process bound.considerations (setting_of tenant before s) eligible (progress_of bound.work before s)).trace
   pub stands : StandFor new records clock index (process_at tenant bound before s eligible stays).0
 
 -- the tenant keeps its number; the records of other sessions stay; the clock and the tables' next numbers rise by n at most

@@ -104,9 +104,9 @@ setting_of tenant state s = record {
   base = tables_without state s;
 }
 
--- where its transaction stands
-abbrev pub progress_of : State → ℕ → Progress
-progress_of state s = record { changes = changes_of (session_at state s); marks = marks_of (session_at state s); locks = state.locks }
+-- where its transaction stands, with so much left to the step
+abbrev pub progress_of : Option ℕ → State → ℕ → Progress
+progress_of left state s = record { changes = changes_of (session_at state s); marks = marks_of (session_at state s); locks = state.locks; left = left }
 
 -- the transaction goes on as the progress has it
 abbrev pub with_progress : State → ℕ → Progress → State

@@ -1,5 +1,6 @@
 -- Promise: one step of a tenant: a line of a session.
 use Rattle.std.specs.Prelude.{ℕ, ◌+◌, Bool, true, false, not, ◌&&◌, nat_le, List, Option, Some, None, Result, Ok, Err, codes}
+use Rattle.sb_tenant.specs.declared.bound.Bound.{Bound}
 use Rattle.sb_value.specs.declared.refusal.Refusal.{Refusal}
 use Rattle.sb_value.specs.declared.refusal.Refusal.TheVariants as refusal
 use Rattle.sb_tenant.specs.declared.reply.Reply.{Reply}
@@ -42,7 +43,7 @@ session_refusal class state s = refusal_by class (is_open (session_at state s)) 
 abbrev pub numbered : State → State × Reply → State × Answer
 numbered before r = let n = before.steps + 1 in (record r.0 { steps = n }, record { number = Some n; reply = r.1 })
 
-module _ (tenant bound : ℕ) where
+module _ (tenant : ℕ) (bound : Bound) where
   -- a command is refused by its session, or else by its walk, or else is performed
   abbrev pub outcome_of : State → ℕ → Option Refusal → Result Resolved Refusal → State × Reply
   outcome_of state s (Some r) walked = (state, No r)

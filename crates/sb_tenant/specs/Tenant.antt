@@ -1,5 +1,6 @@
 -- Promise: a tenant as its users see it: its number, its bound, its trail with its volume, and a time for each mark. Its state is the trail's replay.
 use Rattle.std.specs.Prelude.{◌≡◌, ℕ, List, []}
+use Rattle.sb_tenant.specs.declared.bound.Bound.{Bound}
 use Rattle.sb_process.specs.Transactions.{Kept}
 use Rattle.sb_tenant.specs.declared.reply.Entry.{Entry}
 use Rattle.sb_tenant.specs.declared.reply.Answer.{Answer}
@@ -8,11 +9,11 @@ use Rattle.sb_tenant.specs.State.{State}
 use Rattle.sb_tenant.specs.Trail.{state_of, IsTrail, Steps, Extends, IsNotBegun}
 use Rattle.sb_tenant.specs.Volumes.{first_volume}
 
--- a number, the most considerations at one assertion point, the entries so far, which volume of its life they are,
+-- a number, how much a step may do, the entries so far, which volume of its life they are,
 -- and what is kept of the sessions' transactions beside the log
 pub record Tenant : Type 0 where
   pub id : ℕ
-  pub bound : ℕ
+  pub bound : Bound
   pub trail : List Entry
   pub volume : Volume
   pub transactions : Kept
@@ -26,7 +27,7 @@ abbrev pub IsLegal : Tenant → Type 0
 IsLegal t = IsTrail t.id t.bound t.trail
 
 -- before the first step
-abbrev pub IsNew : ℕ → ℕ → Tenant → Type 0
+abbrev pub IsNew : ℕ → Bound → Tenant → Type 0
 IsNew id bound t = (t.id ≡ id) × (t.bound ≡ bound) × (t.trail ≡ []) × (t.volume ≡ first_volume)
 
 -- its number, its bound and its volume stay

@@ -1,5 +1,6 @@
 -- Promise: trails: an abort, which entry may come next, the legal trails, and the state that a trail gives.
 use Rattle.std.specs.Prelude.{◌≡◌, ℕ, ◌+◌, Bool, true, false, ◌⊎◌, List, [], ◌∷◌, ◌++◌, length, Some, None, IsTrue, IsFalse}
+use Rattle.sb_tenant.specs.declared.bound.Bound.{Bound}
 use Rattle.sb_value.specs.declared.refusal.Refusal.TheVariants.{NoMemory, TrailFull}
 use Rattle.sb_tenant.specs.declared.reply.Reply.{Reply}
 use Rattle.sb_tenant.specs.declared.reply.Reply.TheVariants.{No}
@@ -30,7 +31,7 @@ is_no_memory reply = false
 abbrev pub entry_of : ℕ → List ℕ → Reply → Entry
 entry_of s line reply = record { session = s; line = line; reply = reply }
 
-module _ (tenant bound : ℕ) where
+module _ (tenant : ℕ) (bound : Bound) where
   -- an entry as a step with its number, or as an abort
   abbrev pub IsStep : State → Entry → State → Type 0
   IsStep before entry after =

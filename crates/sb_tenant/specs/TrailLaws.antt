@@ -1,5 +1,6 @@
 -- Promise: laws of trails, as statements.
 use Rattle.std.specs.Prelude.{◌≡◌, ℕ, ◌+◌, ◌≤◌, ◌↔◌, Bool, true, false, not, ◌==◌, List, length, Option, Some, None, IsFalse}
+use Rattle.sb_tenant.specs.declared.bound.Bound.{Bound}
 use Rattle.sb_syntax.specs.Text.{command_of}
 use Rattle.sb_syntax.specs.Tree.{Command, open_session, end_session}
 use Rattle.sb_tenant.specs.Limits.{entry_limit}
@@ -18,7 +19,7 @@ open_by (Some open_session) was = true
 open_by (Some end_session) was = false
 open_by command was = was
 
-module _ (tenant bound : ℕ) where
+module _ (tenant : ℕ) (bound : Bound) where
   -- a legal trail fixes the state after it
   abbrev pub TrailsFixStates : Type 0
   TrailsFixStates = (before : State) (entries : List Entry) (one other : State) → IsLegal tenant bound before entries one → IsLegal tenant bound before entries other → one ≡ other

@@ -1,5 +1,6 @@
 -- Machine: what holds of each state that can be reached: of its marks, its locks and its lists of changes.
 use Rattle.std.specs.Prelude.{◌≤◌, ℕ, List, length, IsTrue, IsFalse}
+use Rattle.sb_tenant.specs.declared.bound.Bound.{Bound}
 use Rattle.sb_value.specs.declared.lock.LockMode.{LockMode}
 use Rattle.sb_value.specs.Table.{IsProper}
 use Rattle.sb_process.specs.Represents.{AreLocked}
@@ -25,5 +26,5 @@ abbrev pub IsWellFormed : State → Type 0
 IsWellFormed state = HasSoundLocks state × HasProperLists state
 
 -- so it is after each legal trail
-abbrev pub StatesAreWellFormed : ℕ → ℕ → Type 0
+abbrev pub StatesAreWellFormed : ℕ → Bound → Type 0
 StatesAreWellFormed tenant bound = (trail : List Entry) (state : State) → IsLegal tenant bound opening trail state → IsWellFormed state

@@ -65,7 +65,7 @@ impl Store {
         asker: &Asker<'_>,
     ) -> Replies
         requires stand { (state : State) × StandFor self.old (L.records log.old) (L.clock log.old) index.old state }
-        requires bound { asker.now.bound ≤ 1000 }
+        requires bound { asker.now.bound.considerations ≤ 1000 }
         requires short { length asker.now.line.now ≤ text_limit }
         requires times { L.clock log.old < 2 ^ 63 }
         requires numbers { NumbersBelow (2 ^ 63) self.old.database.tables }
@@ -136,7 +136,7 @@ impl Store {
         command: Command,
     ) -> Replies
         requires stand { (state : State) × StandFor self.old (L.records log.old) (L.clock log.old) index.old state }
-        requires bound { asker.now.bound ≤ 1000 }
+        requires bound { asker.now.bound.considerations ≤ 1000 }
         requires times { L.clock log.old < 2 ^ 63 }
         requires numbers { NumbersBelow (2 ^ 63) self.old.database.tables }
         requires few { HasFewActions (tree_of command) }

@@ -4,6 +4,7 @@
 mod alike;
 mod answer;
 mod asker;
+mod bound;
 mod class;
 mod define;
 mod end_lines;
@@ -29,6 +30,7 @@ pub use alike::laws::{
     alike_answer_alike, alike_at_rest_are_alike, renewal_is_unseen, sessions_end_and_open_alone,
 };
 pub use alike::{are_alike, is_busy};
+pub use bound::Bound;
 pub use lines::KnownLines;
 pub use places::reserve_here;
 pub use reply::{Answer, Entry, Line, NamedTrace, Reply, RuleError, RuleName};

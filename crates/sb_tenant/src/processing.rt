@@ -48,7 +48,8 @@ impl Store {
         requires stand { (state : State) × StandFor self.old (L.records log.old) (L.clock log.old) index.now state }
         requires active { phase_at self.old.phases asker.now.session ≡ phase.Active }
         requires rules { (id : ℕ) → IsTrue (flag_at eligible id) → IsTrue (is_active self.old.definitions.rules id) }
-        requires bound { asker.now.bound ≤ 1000 }
+        requires bound { asker.now.bound.considerations ≤ 1000 }
+        requires budget { self.old.database.left ≡ asker.now.bound.work }
         requires times { L.clock log.old < 2 ^ 63 }
         requires numbers { NumbersBelow (2 ^ 63) self.old.database.tables }
         ensures performed { EachState self.old (L.records log.old) (L.clock log.old) index.now
@@ -63,7 +64,7 @@ impl Store {
         let point = AssertionPoint {
             session: asker.session,
             eligible,
-            bound: asker.bound,
+            bound: asker.bound.considerations,
             watch: asker.watch,
         };
         match self.run(alloc, log, index, &point) {
@@ -96,7 +97,7 @@ impl Store {
         ensures found { EachState self.old (L.records log.old) (L.clock log.old) index.now
             (λ state. (chosen : ℕ → Bool) → ((id : ℕ) → flag_at point.now.eligible id ≡ chosen id) →
             IfOk result (λ p. Finds self.old.database.id self.new (L.records log.new) (L.clock log.new) index.now state
-            point.now.session point.now.bound chosen p)) }
+            point.now.session (record { considerations = point.now.bound; work = self.old.database.left }) chosen p)) }
         ensures aside { EachState self.old (L.records log.old) (L.clock log.old) index.now
             (λ state. StandAside self.new (L.records log.new) (L.clock log.new) index.now state point.now.session) }
         ensures under_way { IfOk result (λ p. is_done p.outcome ≡ true

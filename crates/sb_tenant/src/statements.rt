@@ -1,5 +1,6 @@
 //! Statements of a session's transaction.
 ghost use Rattle.std.specs.Prelude.{◌≡◌, ◌<◌, ◌^◌, ℕ, List, IfOk};
+ghost use Rattle.sb_tenant.specs.declared.bound.Bound.{Bound};
 ghost use Rattle.sb_eval.specs.Statement as locks;
 ghost use Rattle.sb_index.specs.TableSets.{TableSets};
 ghost use Rattle.sb_process.specs.Made.{NumbersBelow};
@@ -14,6 +15,7 @@ use crate::reply::Reply;
 use crate::store::{Replies, Store, tables_are_shared};
 use sb_check::{Query, Statement};
 use sb_index::RuleIndex;
+use sb_process::Rules;
 use sb_rawlog::ChangeLog;
 use sb_rows::SharedRows;
 use sb_value::SessionId;
@@ -33,7 +35,7 @@ impl Store {
         requires there { AreThere self.old.database.tables (locks.query_locks query.now) }
         ensures performed { (index : List (List TableSets)) →
             EachState self.old (L.records log.old) (L.clock log.old) index
-            (λ state. (bound : ℕ) →
+            (λ state. (bound : Bound) → self.old.database.left ≡ bound.work →
             Performs self.new (L.records log.new) (L.clock log.new) index state session
             (perform self.old.database.id bound state session (query_of query.now)) result.0) }
         ensures twice { result.1 ≡ result.0 }
@@ -70,7 +72,7 @@ impl Store {
         requires times { L.clock log.old < 2 ^ 63 }
         requires numbers { NumbersBelow (2 ^ 63) self.old.database.tables }
         ensures performed { EachState self.old (L.records log.old) (L.clock log.old) index.now
-            (λ state. (bound : ℕ) →
+            (λ state. (bound : Bound) → self.old.database.left ≡ bound.work →
             Performs self.new (L.records log.new) (L.clock log.new) index.now state session
             (perform self.old.database.id bound state session (change_of statement.now)) result.0) }
         ensures twice { result.1 ≡ result.0 }
@@ -78,7 +80,12 @@ impl Store {
             (L.records log.old) (L.records log.new) (L.clock log.old) (L.clock log.new) }
     {
         tables_are_shared(session);
-        match self.database.change(alloc, log, index, session, statement) {
+        let rules = Rules {
+            catalog: &self.definitions.rules,
+            index,
+            order: &self.definitions.order,
+        };
+        match self.database.change(alloc, log, &rules, session, statement) {
             Ok(count) => (Reply::Count(count as u64), Reply::Count(count as u64)),
             Err(refusal) => self.refuse(log, session, refusal),
         }

@@ -15,6 +15,7 @@ ghost use Rattle.sb_tenant.specs.Lending.{InStep, HoldNothing, HoldRules, StaysI
 ghost use Rattle.sb_tenant.specs.Volumes.{AreClosed, HasFollowing, following};
 
 use crate::asker::Asker;
+use crate::bound::Bound;
 use crate::end_lines::EndLines;
 use crate::lines::KnownLines;
 use crate::phase::Phase;
@@ -60,7 +61,7 @@ pub struct Sent<'a> {
 
 /// A database of its own, with the trail of its steps.
 pub struct Tenant {
-    bound: u32,
+    bound: Bound,
     store: Store,
     trail: Vec<Entry>,
     end_lines: EndLines,
@@ -98,8 +99,8 @@ impl Model for Tenant {
 impl Tenant {
     /// A tenant without tables and rules, its sessions closed. `bound` is its consideration limit: the most rules that
     /// are considered at an assertion point.
-    pub fn new(alloc: Global, id: TenantId, bound: u32) -> Tenant
-        requires { bound ≤ 1000 }
+    pub fn new(alloc: Global, id: TenantId, bound: Bound) -> Tenant
+        requires { bound.considerations ≤ 1000 }
         ensures is_new { IsNew id bound result }
         ensures in_step { (records : List Record) (clock : ℕ) (index : List (List TableSets)) →
             HoldNothing id records index → InStep result records clock index }
@@ -149,7 +150,7 @@ impl Tenant {
     }
 
     /// Its consideration limit.
-    pub fn bound(&self) -> u32
+    pub fn bound(&self) -> Bound
         ensures { result ≡ self.now.bound }
     {
         self.bound

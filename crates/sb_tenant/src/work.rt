@@ -1,5 +1,6 @@
 //! The commands that work in a session's transaction.
 ghost use Rattle.std.specs.Prelude.{◌≡◌, ◌<◌, ◌≤◌, ◌^◌, ℕ, List, None};
+ghost use Rattle.sb_tenant.specs.declared.bound.Bound.{Bound};
 ghost use Rattle.sb_index.specs.TableSets.{TableSets};
 ghost use Rattle.sb_process.specs.Made.{NumbersBelow};
 ghost use Rattle.sb_syntax.specs.Tree as text;
@@ -35,7 +36,7 @@ impl Store {
     ) -> Replies
         requires stand { (state : State) × StandFor self.old (L.records log.old) (L.clock log.old) index.now state }
         requires active { phase_at self.old.phases asker.now.session ≡ phase.Active }
-        requires bound { asker.now.bound ≤ 1000 }
+        requires bound { asker.now.bound.considerations ≤ 1000 }
         requires times { L.clock log.old < 2 ^ 63 }
         requires numbers { NumbersBelow (2 ^ 63) self.old.database.tables }
         ensures performed { EachState self.old (L.records log.old) (L.clock log.old) index.now
@@ -46,6 +47,7 @@ impl Store {
         ensures leaves { Leaves 32768000 self.old self.new asker.now.session
             (L.records log.old) (L.records log.new) (L.clock log.old) (L.clock log.new) }
     {
+        self.database.left = asker.bound.work;
         match command {
             TransactionCommand::Commit => {
                 let eligible = self.definitions.active();
@@ -94,7 +96,7 @@ impl Store {
         requires active { phase_at self.old.phases session ≡ phase.Active }
         ensures performed { (index : List (List TableSets)) →
             EachState self.old (L.records log.old) (L.clock log.old) index
-            (λ state. (bound : ℕ) →
+            (λ state. (bound : Bound) → self.old.database.left ≡ bound.work →
             Performs self.new (L.records log.new) (L.clock log.new) index state session
             (outcome_of self.old.database.id bound state session None
             (walk state.catalog (text.query (view.query query.now)))) result.0) }
@@ -133,7 +135,7 @@ impl Store {
         requires times { L.clock log.old < 2 ^ 63 }
         requires numbers { NumbersBelow (2 ^ 63) self.old.database.tables }
         ensures performed { EachState self.old (L.records log.old) (L.clock log.old) index.now
-            (λ state. (bound : ℕ) →
+            (λ state. (bound : Bound) → self.old.database.left ≡ bound.work →
             Performs self.new (L.records log.new) (L.clock log.new) index.now state session
             (outcome_of self.old.database.id bound state session None
             (walk state.catalog (text.change (view.statement change.now)))) result.0) }

@@ -1,5 +1,6 @@
 //! What holds of alike tenants, over the definitions alone: each law is the contract of a function that does nothing.
 ghost use Rattle.std.specs.Prelude.{ℕ};
+ghost use Rattle.sb_tenant.specs.declared.bound.Bound.{Bound};
 ghost use Rattle.sb_tenant.specs.AlikeLaws.{AlikeAnswerAlike, AlikeAtRestAreAlike};
 ghost use Rattle.sb_tenant.specs.Renewals.{EndsAlone, OpensAlone, RenewalIsUnseen};
 
@@ -9,7 +10,7 @@ use sb_value::precedes_is_closure;
 
 /// Alike tenants give the same replies to the same lines, as long as no trail is full, and stay alike.
 pub fn alike_answer_alike()
-    ensures { (first second bound : ℕ) → AlikeAnswerAlike first second bound }
+    ensures { (first second : ℕ) (bound : Bound) → AlikeAnswerAlike first second bound }
 {
     // for the proof: only the set of pairs counts, and a new table has a number that no other one has
     precedes_is_closure();
@@ -18,7 +19,7 @@ pub fn alike_answer_alike()
 
 /// Tenants at rest that show the same, with the same sessions open, are alike.
 pub fn alike_at_rest_are_alike()
-    ensures { (first second bound : ℕ) → AlikeAtRestAreAlike first second bound }
+    ensures { (first second : ℕ) (bound : Bound) → AlikeAtRestAreAlike first second bound }
 {
     // for the proof: where no session has a transaction, nothing is locked
     states_are_well_formed();
@@ -29,7 +30,7 @@ pub fn alike_at_rest_are_alike()
 /// The replies in all volumes of a tenant's life, where none is for want of memory, are those of an engine whose trail
 /// never fills.
 pub fn renewal_is_unseen()
-    ensures { (tenant bound : ℕ) → RenewalIsUnseen tenant bound }
+    ensures { (tenant : ℕ) (bound : Bound) → RenewalIsUnseen tenant bound }
 {
     // for the proof: alike tenants answer alike, and where no session has a transaction, nothing is locked
     alike_answer_alike();
@@ -40,8 +41,8 @@ pub fn renewal_is_unseen()
 
 /// A session without a transaction ends and opens, and nothing else changes but the number of steps.
 pub fn sessions_end_and_open_alone()
-    ensures ends { (tenant bound : ℕ) → EndsAlone tenant bound }
-    ensures opens { (tenant bound : ℕ) → OpensAlone tenant bound }
+    ensures ends { (tenant : ℕ) (bound : Bound) → EndsAlone tenant bound }
+    ensures opens { (tenant : ℕ) (bound : Bound) → OpensAlone tenant bound }
 {
     // for the proof: a session without a transaction has no locks
     states_are_well_formed();

@@ -15,18 +15,18 @@ refuse-requires g c =
     let w = count-aside c.tables_are_shared.ensures.laws c.tables_are_shared.ensures.in_range c.requires.stand.1 call c.requires.active c.requires.active c.args.statement.now c.in-Err.ensures.changed in (c.args.index.now, w.0, w.1)
 
 pub returns-in-Ok-clause-performed : goal.returns-in-Ok-clause-performed
-returns-in-Ok-clause-performed g c = λ state st bound.
+returns-in-Ok-clause-performed g c = λ state st bound left.
     let l = c.change.ensures.leaves in
     let call = called c.args.self.now c.change.new.self c.args.self.now.phases l.id l.others l.times.0 l.sessions (λ o other. refl) in
-    let comes = count-comes c.tables_are_shared.ensures.laws c.tables_are_shared.ensures.in_range st call c.requires.active c.requires.active c.args.statement.now c.in-Ok.ensures.changed bound in inl (sym comes.0, comes.1)
+    let comes = count-comes c.tables_are_shared.ensures.laws c.tables_are_shared.ensures.in_range st call c.requires.active c.requires.active c.args.statement.now c.in-Ok.ensures.changed bound left in inl (sym comes.0, comes.1)
 
 pub returns-in-Err-clause-performed : goal.returns-in-Err-clause-performed
-returns-in-Err-clause-performed g c = λ state st bound.
+returns-in-Err-clause-performed g c = λ state st bound left.
     let laws = c.tables_are_shared.ensures.laws in let is = c.tables_are_shared.ensures.in_range in
     let l = c.change.ensures.leaves in
     let call = called c.args.self.now c.change.new.self c.args.self.now.phases l.id l.others l.times.0 l.sessions (λ o other. refl) in
     c.refuse.ensures.refused c.args.index.now state (perform c.args.self.now.database.id bound state c.args.session (change c.args.statement.now))
-    (count-aside laws is st call c.requires.active c.requires.active c.args.statement.now c.in-Err.ensures.changed) (count-comes laws is st call c.requires.active c.requires.active c.args.statement.now c.in-Err.ensures.changed bound)
+    (count-aside laws is st call c.requires.active c.requires.active c.args.statement.now c.in-Err.ensures.changed) (count-comes laws is st call c.requires.active c.requires.active c.args.statement.now c.in-Err.ensures.changed bound left)
 
 pub returns-in-Ok-clause-leaves : goal.returns-in-Ok-clause-leaves
 returns-in-Ok-clause-leaves g c = let l = c.change.ensures.leaves in leaves_changed l.id l.others l.times l.numbers

@@ -1,8 +1,9 @@
-use Rattle.std.proofs.Common.{◌∙◌, inl, sym, ap, arith}
+use Rattle.std.proofs.Common.{◌∙◌, ℕ, Option, inl, sym, ap, subst, arith}
 use Rattle.sb_catalog.specs.declared.definitions.Definitions.{Definitions}
 use Rattle.sb_process.specs.Process.{process}
 use Rattle.sb_process.specs.Running.{is_done}
 use Rattle.sb_tenant.specs.Perform.{named, reply_of}
+use Rattle.sb_tenant.specs.Represents.{Finds}
 use Rattle.sb_tenant.specs.State.{setting_of, progress_of}
 use Rattle.sb_tenant.proofs.Leaving.{leaves_on, leaves_more}
 use Rattle.sb_tenant.proofs.store.Store.process.Goals as goal
@@ -16,9 +17,10 @@ finish-requires-clause-active g c = λ e. c.in-Ok.ensures.under_way (sym c.is_do
 pub returns-in-Ok-told-clause-performed : goal.returns-in-Ok-told-clause-performed
 returns-in-Ok-told-clause-performed g c = λ state st chosen flags.
     let s = c.args.asker.now.session in
-    let found = c.in-Ok.ensures.found state st chosen flags in
+    let found = subst (λ (l : Option ℕ). Finds c.args.self.now.database.id c.run.new.self (g.L.ChangeLog.records c.run.new.log) (g.L.ChangeLog.clock c.run.new.log) c.args.index.now state s (record { considerations = c.args.asker.now.bound.considerations; work = l }) chosen c.in-Ok.processed)
+    c.requires.budget (c.in-Ok.ensures.found state st chosen flags) in
     let tells = c.in-Ok-told.ensures.told state.catalog (sym st.0.1.rules ∙ sym (ap (λ (d : Definitions). d.rules) c.run.ensures.definitions)) in
-    let meant = process c.args.asker.now.bound (setting_of c.args.self.now.database.id state s) chosen (progress_of state s) in
+    let meant = process c.args.asker.now.bound.considerations (setting_of c.args.self.now.database.id state s) chosen (progress_of c.args.asker.now.bound.work state s) in
     inl (
       tells ∙ (λ i. reply_of state.catalog (found.outcome i) (named state.catalog (found.trace i))),
       c.finish.ensures.finished c.args.index.now state meant.outcome meant.progress (sym (ap is_done found.outcome) ∙ sym c.is_done.ensures) found.stands,

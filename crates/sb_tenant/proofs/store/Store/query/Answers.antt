@@ -19,16 +19,16 @@ pub select-replies-requires-clause-there : goal.select-replies-requires-clause-t
 select-replies-requires-clause-there g c = query_names_tables c.resolved_tables_are_there.ensures.queries c.args.self.now.database.tables (view.query c.args.query.now) c.in-Ok.resolved c.in-Ok.ensures
 
 pub returns-in-Ok-clause-performed : goal.returns-in-Ok-clause-performed
-returns-in-Ok-clause-performed g c = λ index state h bound.
+returns-in-Ok-clause-performed g c = λ index state h bound left.
     let old = c.args.self.now in
     let q = view.query c.args.query.now in
     performs_as c.select-replies.new.self (g.L.ChangeLog.records c.select-replies.new.log) (g.L.ChangeLog.clock c.select-replies.new.log) index state old.database.id bound c.args.session (walk state.catalog (text.query q)) (Ok (query c.in-Ok.resolved))
     c.select-replies.result.0
     (query_walked old (g.L.ChangeLog.records c.args.log.now) (g.L.ChangeLog.clock c.args.log.now) index state h c.walks_see_columns.ensures.queries q c.in-Ok.resolved c.in-Ok.ensures)
-    (c.select-replies.ensures.performed index state h bound)
+    (c.select-replies.ensures.performed index state h bound left)
 
 pub returns-in-Err-clause-performed : goal.returns-in-Err-clause-performed
-returns-in-Err-clause-performed g c = λ index state h bound.
+returns-in-Err-clause-performed g c = λ index state h bound left.
     let old = c.args.self.now in
     let q = view.query c.args.query.now in
     let part : Result Query Refusal = and_then (walk_query (outside (entries old.database.tables)) q []) (λ w. Ok w.0) in

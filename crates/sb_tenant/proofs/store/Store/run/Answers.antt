@@ -12,7 +12,7 @@ pub process-requires-clause-work : goal.process-requires-clause-work
 process-requires-clause-work g c =
     let old = c.args.self.now in let s = c.args.point.now.session in let laws = c.tables_are_shared.ensures.laws in let is = c.tables_are_shared.ensures.in_range in
     let state = c.requires.stand.0 in let st = c.requires.stand.1 in
-    (base_of st.0.0 state s, setting_of old.database.id state s, progress_of state s, works-in laws is st)
+    (base_of st.0.0 state s, setting_of old.database.id state s, progress_of old.database.left state s, works-in laws is st)
 
 pub process-requires-clause-rules : goal.process-requires-clause-rules
 process-requires-clause-rules g c = let h = c.requires.stand.1.0.1 in subst (CanRun c.args.self.now.database.tables) (sym h.rules) h.runnable
@@ -27,14 +27,14 @@ returns-then-is_done-clause-aside g c = λ state st.
     let old = c.args.self.now in let s = c.args.point.now.session in let laws = c.tables_are_shared.ensures.laws in let is = c.tables_are_shared.ensures.in_range in
     let l = c.process.ensures.leaves in
     let call = called old c.process.new.self old.phases l.id l.others l.times.0 l.sessions (λ o other. refl) in
-    (processed-done laws is st call c.requires.active c.args.point.now.bound (flag_at c.args.point.now.eligible) (c.in-Ok.ensures.processed (base_of st.0.0 state s) (setting_of old.database.id state s) (progress_of state s) (works-in laws is st)) (sym c.is_done.ensures ∙ c.if-is_done.true) c.requires.active).1
+    (processed-done laws is st call c.requires.active c.args.point.now.bound (flag_at c.args.point.now.eligible) (c.in-Ok.ensures.processed (base_of st.0.0 state s) (setting_of old.database.id state s) (progress_of old.database.left state s) (works-in laws is st)) (sym c.is_done.ensures ∙ c.if-is_done.true) c.requires.active).1
 
 pub returns-then-is_done-clause-found : goal.returns-then-is_done-clause-found
 returns-then-is_done-clause-found g c = λ state st chosen flags.
     let old = c.args.self.now in let s = c.args.point.now.session in let laws = c.tables_are_shared.ensures.laws in let is = c.tables_are_shared.ensures.in_range in
     let l = c.process.ensures.leaves in
     let call = called old c.process.new.self old.phases l.id l.others l.times.0 l.sessions (λ o other. refl) in
-    let k = c.in-Ok.ensures.processed (base_of st.0.0 state s) (setting_of old.database.id state s) (progress_of state s) (works-in laws is st) in
+    let k = c.in-Ok.ensures.processed (base_of st.0.0 state s) (setting_of old.database.id state s) (progress_of old.database.left state s) (works-in laws is st) in
     finds-with laws is st call c.requires.active c.args.point.now.bound (flag_at c.args.point.now.eligible) k c.in-Ok.processed refl refl flags (processed-done laws is st call c.requires.active c.args.point.now.bound (flag_at c.args.point.now.eligible) k (sym c.is_done.ensures ∙ c.if-is_done.true) c.requires.active).0
 
 pub returns-then-is_done-clause-leaves : goal.returns-then-is_done-clause-leaves
@@ -49,14 +49,14 @@ returns-else-is_done-clause-aside g c = λ state st.
     let old = c.args.self.now in let s = c.args.point.now.session in let laws = c.tables_are_shared.ensures.laws in let is = c.tables_are_shared.ensures.in_range in
     let l = c.process.ensures.leaves in
     let call = called old c.process.new.self c.set.new.self l.id l.others l.times.0 l.sessions (set-other old.phases c.set.new.self s Idle c.set.ensures) in
-    (processed-back laws is st call c.requires.active c.args.point.now.bound (flag_at c.args.point.now.eligible) (c.in-Ok.ensures.processed (base_of st.0.0 state s) (setting_of old.database.id state s) (progress_of state s) (works-in laws is st)) (sym c.is_done.ensures ∙ c.if-is_done.false) (set-own old.phases c.set.new.self s Idle c.set.ensures) c.process.ensures.past).1
+    (processed-back laws is st call c.requires.active c.args.point.now.bound (flag_at c.args.point.now.eligible) (c.in-Ok.ensures.processed (base_of st.0.0 state s) (setting_of old.database.id state s) (progress_of old.database.left state s) (works-in laws is st)) (sym c.is_done.ensures ∙ c.if-is_done.false) (set-own old.phases c.set.new.self s Idle c.set.ensures) c.process.ensures.past).1
 
 pub returns-else-is_done-clause-found : goal.returns-else-is_done-clause-found
 returns-else-is_done-clause-found g c = λ state st chosen flags.
     let old = c.args.self.now in let s = c.args.point.now.session in let laws = c.tables_are_shared.ensures.laws in let is = c.tables_are_shared.ensures.in_range in
     let l = c.process.ensures.leaves in
     let call = called old c.process.new.self c.set.new.self l.id l.others l.times.0 l.sessions (set-other old.phases c.set.new.self s Idle c.set.ensures) in
-    let k = c.in-Ok.ensures.processed (base_of st.0.0 state s) (setting_of old.database.id state s) (progress_of state s) (works-in laws is st) in
+    let k = c.in-Ok.ensures.processed (base_of st.0.0 state s) (setting_of old.database.id state s) (progress_of old.database.left state s) (works-in laws is st) in
     finds-with laws is st call c.requires.active c.args.point.now.bound (flag_at c.args.point.now.eligible) k c.in-Ok.processed refl refl flags
     (processed-back laws is st call c.requires.active c.args.point.now.bound (flag_at c.args.point.now.eligible) k (sym c.is_done.ensures ∙ c.if-is_done.false) (set-own old.phases c.set.new.self s Idle c.set.ensures) c.process.ensures.past).0
 
@@ -65,7 +65,7 @@ returns-in-Err-clause-aside g c = λ state st.
     let old = c.args.self.now in let s = c.args.point.now.session in let laws = c.tables_are_shared.ensures.laws in let is = c.tables_are_shared.ensures.in_range in
     let l = c.process.ensures.leaves in
     let call = called old c.process.new.self c.set-in-Err.new.self l.id l.others l.times.0 l.sessions (set-other old.phases c.set-in-Err.new.self s Idle c.set-in-Err.ensures) in
-    back-aside laws is st.0.1 st.1 call c.requires.active (goes-back laws is st.0.1 st.1 call (set-own old.phases c.set-in-Err.new.self s Idle c.set-in-Err.ensures) c.process.ensures.past (c.in-Err.ensures.no_memory (base_of st.0.0 state s) (setting_of old.database.id state s) (progress_of state s) (works-in laws is st)))
+    back-aside laws is st.0.1 st.1 call c.requires.active (goes-back laws is st.0.1 st.1 call (set-own old.phases c.set-in-Err.new.self s Idle c.set-in-Err.ensures) c.process.ensures.past (c.in-Err.ensures.no_memory (base_of st.0.0 state s) (setting_of old.database.id state s) (progress_of old.database.left state s) (works-in laws is st)))
 
 pub returns-else-is_done-clause-leaves : goal.returns-else-is_done-clause-leaves
 returns-else-is_done-clause-leaves g c =

@@ -20,16 +20,16 @@ change-replies-requires-clause-there g c =
     (c.resolved_tables_are_there.ensures.statements (outside (entries c.args.self.now.database.tables)) (view.statement c.args.change.now) c.in-Ok.statement c.in-Ok.ensures)
 
 pub returns-in-Ok-clause-performed : goal.returns-in-Ok-clause-performed
-returns-in-Ok-clause-performed g c = λ state h bound.
+returns-in-Ok-clause-performed g c = λ state h bound left.
     let old = c.args.self.now in
     let q = view.statement c.args.change.now in
     performs_as c.change-replies.new.self (g.L.ChangeLog.records c.change-replies.new.log) (g.L.ChangeLog.clock c.change-replies.new.log) c.args.index.now state old.database.id bound c.args.session (walk state.catalog (text.change q))
     (Ok (change c.in-Ok.statement)) c.change-replies.result.0
     (change_walked old (g.L.ChangeLog.records c.args.log.now) (g.L.ChangeLog.clock c.args.log.now) c.args.index.now state h c.walks_see_columns.ensures.statements q (Ok c.in-Ok.statement) c.in-Ok.ensures)
-    (c.change-replies.ensures.performed state h bound)
+    (c.change-replies.ensures.performed state h bound left)
 
 pub returns-in-Err-clause-performed : goal.returns-in-Err-clause-performed
-returns-in-Err-clause-performed g c = λ state h bound.
+returns-in-Err-clause-performed g c = λ state h bound left.
     let old = c.args.self.now in
     let q = view.statement c.args.change.now in
     let why : (walk_statement (outside (entries old.database.tables)) q ≡ Err c.in-Err.refusal) ⊎ (c.in-Err.refusal ≡ refusal.NoMemory) = c.in-Err.ensures in
