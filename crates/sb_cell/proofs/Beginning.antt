@@ -3,6 +3,7 @@ use Rattle.std.proofs.Common.{◌≡◌, ℕ, ◌+◌, ◌*◌, ◌/◌, ◌%◌
 use Rattle.std.specs.List.{slice_get}
 use Rattle.std.proofs.lemmas.Bool.{ltb-true, ltb-false}
 use Rattle.std.proofs.lemmas.Option.{same_Some}
+use Rattle.sb_tenant.specs.declared.bound.Bound.{Bound}
 use Rattle.sb_value.specs.declared.id.Who.{Who}
 use Rattle.sb_rawlog.specs.Sessions.{records_by}
 use Rattle.sb_index.specs.Operation.{Operation}
@@ -27,7 +28,7 @@ get-one_more (z ∷ xs) x (suc i) y at = by (get-one_more xs x i y at)
     by (inl at) = inl at
     by (inr (is, same)) = inr (ap suc is, same)
 
-pub fresh-one_more : (first stride bound : ℕ) (tenants : List Tenant) (t : Tenant) → AreFresh first stride bound tenants → IsFresh (first + stride * length tenants) bound t → AreFresh first stride bound (tenants ++ t ∷ [])
+pub fresh-one_more : (first stride : ℕ) (bound : Bound) (tenants : List Tenant) (t : Tenant) → AreFresh first stride bound tenants → IsFresh (first + stride * length tenants) bound t → AreFresh first stride bound (tenants ++ t ∷ [])
 fresh-one_more first stride bound tenants t all one place v at = by (get-one_more tenants t place v at)
   where
     by : (slice_get tenants place ≡ Some v) ⊎ ((place ≡ length tenants) × (t ≡ v)) → IsFresh (first + stride * place) bound v

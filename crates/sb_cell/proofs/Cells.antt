@@ -4,6 +4,7 @@ use Rattle.std.specs.List.{slice_get}
 use Rattle.std.proofs.lemmas.Bool.{true≢false, eqb-true, eqb-false, ne_eqb}
 use Rattle.std.proofs.lemmas.List.Sums.{sum_by-cons}
 use Rattle.std.proofs.lemmas.Option.{same_Some}
+use Rattle.sb_tenant.specs.declared.bound.Bound.{Bound}
 use Rattle.sb_value.specs.declared.id.Who.{Who}
 use Rattle.sb_value.specs.NetEffect.{is_triggered}
 use Rattle.sb_rawlog.specs.Records.{Record, before}
@@ -168,7 +169,7 @@ module _ (c : Cell) (h : IsHosted c) (t s n : ℕ) (w new : Tenant) (records' : 
       by_trails =
           subst (λ (es : List Entry). IsTurn c.bound t es (s, line) given (trails after t)) (ap trail_of (sym own_before))
           (subst (λ (es : List Entry). IsTurn c.bound t w.trail (s, line) given es) (ap trail_of (sym own))
-          (subst (λ (k : ℕ). IsTurn k t w.trail (s, line) given new.trail) was.bound
+          (subst (λ (k : Bound). IsTurn k t w.trail (s, line) given new.trail) was.bound
           (subst (λ (i : ℕ). IsTurn w.bound i w.trail (s, line) given new.trail) id_is turn)))
 
 -- ---- the calls
@@ -212,7 +213,7 @@ open_left w new s shut room same = (
 
 -- ---- how many entries there are
 
-pub few_entries : ((tenant bound : ℕ) → TrailsAreBounded tenant bound) → (tenants : List Tenant) → ((place : ℕ) (v : Tenant) → slice_get tenants place ≡ Some v → IsLegal v) → entry_count tenants ≤ entry_limit * length tenants
+pub few_entries : ((tenant : ℕ) (bound : Bound) → TrailsAreBounded tenant bound) → (tenants : List Tenant) → ((place : ℕ) (v : Tenant) → slice_get tenants place ≡ Some v → IsLegal v) → entry_count tenants ≤ entry_limit * length tenants
 few_entries bounded [] legal = omega arith
 few_entries bounded (v ∷ vs) legal =
     let own = bounded v.id v.bound v.trail (state v) (legal 0 v refl) in

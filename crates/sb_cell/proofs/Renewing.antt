@@ -2,6 +2,7 @@
 use Rattle.std.proofs.Common.{◌≡◌, ◌∙◌, ℕ, ◌/◌, ◌≤◌, ◌==◌, Bool, true, false, cond, List, [], ◌∷◌, map, length, slice_set, Option, Some, None, IsTrue, IsFalse, refl, sym, ap, subst, arith}
 use Rattle.std.specs.List.{slice_get}
 use Rattle.std.proofs.lemmas.Option.{same_Some}
+use Rattle.sb_tenant.specs.declared.bound.Bound.{Bound}
 use Rattle.sb_rawlog.specs.Records.{Record}
 use Rattle.sb_rawlog.specs.Sessions.{changes, records_by}
 use Rattle.sb_catalog.specs.declared.rule.Rule.{Rule}
@@ -95,7 +96,7 @@ module _ (c : Cell) (fresh old : Tenant) (before : tenant_at c fresh.id ≡ Some
       stands = record {
         hosted = ap (hosts c) (id ∙ sym number) ∙ own.0;
         bound = bound ∙ limit;
-        legal = subst (λ (t : ℕ × ℕ × List Entry). IsTrail t.0 t.1 t.2) (λ i. (sym id i, sym bound i, sym trail i)) legal;
+        legal = subst (λ (t : ℕ × Bound × List Entry). IsTrail t.0 t.1 t.2) (λ i. (sym id i, sym bound i, sym trail i)) legal;
         in_step = in_step;
       };
     }

@@ -1,5 +1,6 @@
 -- The events of a run.
 use Rattle.std.proofs.Common.{◌≡◌, ℕ, ◌/◌, ◌%◌, Bool, true, false, ◌&&◌, ◌==◌, nat_lt, List, [], ◌∷◌, ◌++◌, length, Result, IsTrue, sym, ap, ◌∙◌, subst}
+use Rattle.sb_tenant.specs.declared.bound.Bound.{Bound}
 use Rattle.sb_tenant.specs.declared.reply.Answer.{Answer}
 use Rattle.sb_tenant.specs.declared.reply.Entry.{Entry}
 use Rattle.sb_tenant.specs.Limits.{is_session}
@@ -39,7 +40,7 @@ more first mid new events answers e given same p one = events-one_more first.bou
     event : IsEvent first.bound (hosts first e.tenant) (is_session e.session) (trails mid) e given (trails new)
     event =
         subst (λ (h : Bool). IsEvent first.bound h (is_session e.session) (trails mid) e given (trails new)) hosted
-        (subst (λ (k : ℕ). IsEvent k (hosts mid e.tenant) (is_session e.session) (trails mid) e given (trails new)) same.2
+        (subst (λ (k : Bound). IsEvent k (hosts mid e.tenant) (is_session e.session) (trails mid) e given (trails new)) same.2
         (trails_by mid new e given (hosts mid e.tenant) (is_session e.session) one))
 
 -- the trails of hosted tenants are legal
@@ -48,5 +49,5 @@ begins_legal c h t hosted =
     let f = found c t hosted in
     let at = h.tenants (t / c.stride) f.0 f.1 in
     subst (λ (es : List Entry). IsTrail t c.bound es) (ap trail_of (sym (by_place c t hosted ∙ f.1)))
-    (subst (λ (k : ℕ). IsTrail t k f.0.trail) at.bound
+    (subst (λ (k : Bound). IsTrail t k f.0.trail) at.bound
     (subst (λ (i : ℕ). IsTrail i f.0.bound f.0.trail) (at.id ∙ number_is c t h hosted) at.legal))

@@ -2,6 +2,7 @@
 use Rattle.std.proofs.Common.{◌≡◌, ℕ, ◌+◌, Bool, true, false, cond, ◌&&◌, ◌==◌, List, [], ◌∷◌, ◌++◌, map, length, Some, None, Result, Ok, Err, inl, inr, ◌⊎◌, refl, sym, ◌∙◌, ap, subst, arith, length-append}
 use Rattle.std.specs.List.{cons_option}
 use Rattle.std.proofs.lemmas.Bool.{true≢false, eqb-true, eq-eqb, false≢true, and_parts}
+use Rattle.sb_tenant.specs.declared.bound.Bound.{Bound}
 use Rattle.sb_value.specs.declared.refusal.Refusal.TheVariants.{NoMemory, TrailFull}
 use Rattle.sb_tenant.specs.declared.reply.Answer.{Answer}
 use Rattle.sb_tenant.specs.declared.reply.Entry.{Entry}
@@ -22,7 +23,7 @@ different a b h =
 
 -- ---- event by event
 
-module _ (bound : ℕ) where
+module _ (bound : Bound) where
   own_turn : (h b : Bool) → h ≡ true → b ≡ true → (before : ℕ → List Entry) (e : Event) (given : Result Answer StepError) (after : ℕ → List Entry) → IsEvent bound h b before e given after →
       IsTurn bound e.tenant (before e.tenant) (e.session, e.line) given (after e.tenant)
   own_turn true true p q before e given after turn = turn.0
@@ -73,7 +74,7 @@ module _ (bound : ℕ) where
   events-one_more hosts (f ∷ fs) [] before mid after e a p one = absurd p
   events-one_more hosts (f ∷ fs) (b ∷ rest) before mid after e a (next, first, p) one = (next, first, events-one_more hosts fs rest next mid after e a p one)
 
-pub events_run_in_turn : (bound : ℕ) (run : Run) → AreEvents bound run.hosts run.before run.events run.given run.after → RunsInTurn bound run
+pub events_run_in_turn : (bound : Bound) (run : Run) → AreEvents bound run.hosts run.before run.events run.given run.after → RunsInTurn bound run
 events_run_in_turn bound run p = record {
   one_each = one_each bound run.hosts run.events run.given run.before run.after p;
   turns = λ t hosted. in_turn bound run.hosts t hosted run.events run.given run.before run.after p;
@@ -83,9 +84,9 @@ events_run_in_turn bound run p = record {
 
 -- a legal trail has as many entries as its state has steps
 abbrev pub Replays : Type 0
-Replays = (tenant bound : ℕ) → LegalStatesAreReplayed tenant bound
+Replays = (tenant : ℕ) (bound : Bound) → LegalStatesAreReplayed tenant bound
 
-module _ (replays : Replays) (bound t : ℕ) where
+module _ (replays : Replays) (bound : Bound) (t : ℕ) where
   abbrev now : List Entry → State
   now trail = state_of t bound trail
 
@@ -133,13 +134,13 @@ module _ (replays : Replays) (bound t : ℕ) where
         more.1 ∙ ap (λ u. state_after t bound u es) (ap (λ r. r.0) (sym s)),
       )
 
-pub turns_run_alone : Replays → (bound : ℕ) (run : Run) → BeginsLegal bound run → RunsInTurn bound run → RunsAlone bound run
+pub turns_run_alone : Replays → (bound : Bound) (run : Run) → BeginsLegal bound run → RunsInTurn bound run → RunsAlone bound run
 turns_run_alone replays bound run legal p = record {
   one_each = p.one_each;
   alone = λ t hosted served. turns_alone replays bound t (run.before t) (own_events t run.events) (own_answers t run.events run.given) (run.after t) (legal t hosted) served (p.turns t hosted);
 }
 
-pub equal_runs_answer_alike : (bound : ℕ) (one other : Run) → RunsAlone bound one → RunsAlone bound other → AnswerAlike bound one other
+pub equal_runs_answer_alike : (bound : Bound) (one other : Run) → RunsAlone bound one → RunsAlone bound other → AnswerAlike bound one other
 equal_runs_answer_alike bound one other p q t hosted hosted_too served served_too same_state same_events =
     let a = p.alone t hosted served in
     let b = q.alone t hosted_too served_too in (

@@ -1,5 +1,6 @@
 -- Promise: what one event may be answered, and a tenant's own events.
 use Rattle.std.specs.Prelude.{true, false, ◌≡◌, ℕ, Bool, ◌&&◌, ◌==◌, if◌then◌else◌, List, [], ◌∷◌, zip, filter_map, Option, Some, None, Result, Ok, Err, IsFalse}
+use Rattle.sb_tenant.specs.declared.bound.Bound.{Bound}
 use Rattle.sb_tenant.specs.declared.reply.Answer.{Answer}
 use Rattle.sb_tenant.specs.declared.reply.Entry.{Entry}
 use Rattle.sb_tenant.specs.Limits.{is_session}
@@ -30,7 +31,7 @@ own_answer t p = if is_own t p.0 then Some p.1 else None
 abbrev pub own_answers : ℕ → List Event → List (Result Answer StepError) → List (Result Answer StepError)
 own_answers t events answers = filter_map (own_answer t) (zip events answers)
 
-module _ (bound : ℕ) where
+module _ (bound : Bound) where
   -- ---- one event of a tenant
 
   -- the trail has one entry more, with the answer's number and reply; or it is full, or the step isn't begun, and it stays

@@ -1,5 +1,6 @@
 -- Machine: what holds of a cell at any time.
 use Rattle.std.specs.Prelude.{◌≡◌, ℕ, ◌+◌, ◌*◌, ◌<◌, ◌≤◌, ◌&&◌, nat_lt, List, [], length, sum_by, slice_get, Some, IsFalse}
+use Rattle.sb_tenant.specs.declared.bound.Bound.{Bound}
 use Rattle.sb_value.specs.declared.id.Who.{Who}
 use Rattle.sb_rawlog.specs.Records.{Record}
 use Rattle.sb_rawlog.specs.Sessions.{records_by}
@@ -34,9 +35,9 @@ abbrev pub ArePlacesBelow : ℕ → ℕ → ℕ → ℕ → Type 0
 ArePlacesBelow first stride limit n = (place : ℕ) → nat_lt place n ≡ nat_lt (first + stride * place) limit
 
 -- a new tenant of a number, which is in step with what holds nothing of it
-abbrev pub IsFresh : ℕ → ℕ → Tenant → Type 0
+abbrev pub IsFresh : ℕ → Bound → Tenant → Type 0
 IsFresh id bound t = IsNew id bound t × ((records : List Record) (clock : ℕ) (index : List (List TableSets)) → HoldNothing t.id records index → InStep t records clock index)
 
 -- new tenants at their places
-abbrev pub AreFresh : ℕ → ℕ → ℕ → List Tenant → Type 0
+abbrev pub AreFresh : ℕ → ℕ → Bound → List Tenant → Type 0
 AreFresh first stride bound tenants = (place : ℕ) (t : Tenant) → slice_get tenants place ≡ Some t → IsFresh (first + stride * place) bound t

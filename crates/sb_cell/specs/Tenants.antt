@@ -1,5 +1,6 @@
 -- Promise: a cell as its users see it: its tenants with their trails, the log and the index that they share.
 use Rattle.std.specs.Prelude.{true, false, ◌≡◌, ℕ, ◌/◌, ◌%◌, Bool, ◌&&◌, ◌==◌, nat_lt, if◌then◌else◌, List, [], length, slice_get, Option, Some, None, Result, Err, IsFalse, IsTrue}
+use Rattle.sb_tenant.specs.declared.bound.Bound.{Bound}
 use Rattle.sb_rawlog.specs.Records.{Record}
 use Rattle.sb_index.specs.TableSets.{TableSets}
 use Rattle.sb_tenant.specs.State.{State}
@@ -14,11 +15,11 @@ use Rattle.sb_cell.specs.declared.Event.{Event}
 use Rattle.sb_cell.specs.Events.{IsTurn}
 use Rattle.sb_cell.specs.Headline.{Run}
 
--- the tenants are those of the numbers first, first + stride, first + 2 * stride, ..; bound is the most considerations at one assertion point
+-- the tenants are those of the numbers first, first + stride, first + 2 * stride, ..; each step has this bound
 pub record Cell : Type 0 where
   pub first : ℕ
   pub stride : ℕ
-  pub bound : ℕ
+  pub bound : Bound
   pub tenants : List Tenant
   pub records : List Record
   pub clock : ℕ
@@ -57,7 +58,7 @@ abbrev pub IsTenantOf : Cell → Tenant → Type 0
 IsTenantOf c t = (hosts c t.id ≡ true) × (t.bound ≡ c.bound) × (tenant_at c t.id ≡ Some t)
 
 -- it hosts the numbers below a limit that are first + stride * place; each of their trails is empty
-pub record IsNew (first stride limit bound : ℕ) (c : Cell) : Type 0 where
+pub record IsNew (first stride limit : ℕ) (bound : Bound) (c : Cell) : Type 0 where
   pub first_is : c.first ≡ first
   pub stride_is : c.stride ≡ stride
   pub hosted : (t : ℕ) → hosts c t ≡ ((t % stride == first) && nat_lt t limit)

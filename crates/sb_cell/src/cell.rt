@@ -19,7 +19,7 @@ use sb_process::StepWatch;
 use sb_rawlog::{ChangeLog, RawLog};
 use sb_tables::Table;
 use sb_tenant::laws::trails_are_bounded;
-use sb_tenant::{Answer, Entry, Line, Sent, Tenant};
+use sb_tenant::{Answer, Bound, Entry, Line, Sent, Tenant};
 use sb_value::{Name, SESSION_LIMIT, SessionId, TenantId};
 use std::alloc::{AllocError, Global};
 use std::marker::Model;
@@ -49,7 +49,7 @@ pub fn ample_buckets(tenants: u32) -> usize
 pub struct Cell {
     first: u32,
     stride: u32,
-    bound: u32,
+    bound: Bound,
     tenants: Vec<Tenant>,
     log: Log,
     index: RuleIndex,
@@ -89,11 +89,11 @@ impl Cell {
         first: u32,
         stride: u32,
         tenants: u32,
-        bound: u32,
+        bound: Bound,
     ) -> Result<Cell, AllocError>
         requires first { first < stride }
         requires tenants { tenants ≤ 256 }
-        requires bound { bound ≤ 1000 }
+        requires bound { bound.considerations ≤ 1000 }
         ensures { IfOk result (IsNew first stride tenants bound) }
     {
         Cell::with_buckets(alloc, first, stride, tenants, bound, BUCKETS)
@@ -106,12 +106,12 @@ impl Cell {
         first: u32,
         stride: u32,
         tenants: u32,
-        bound: u32,
+        bound: Bound,
         buckets: usize,
     ) -> Result<Cell, AllocError>
         requires first { first < stride }
         requires tenants { tenants ≤ 256 }
-        requires bound { bound ≤ 1000 }
+        requires bound { bound.considerations ≤ 1000 }
         requires buckets { (0 < buckets) × (buckets ≤ 65536) }
         ensures { IfOk result (IsNew first stride tenants bound) }
     {
@@ -168,7 +168,7 @@ impl Cell {
     }
 
     /// The consideration limit of its tenants.
-    pub fn bound(&self) -> u32
+    pub fn bound(&self) -> Bound
         ensures { result ≡ self.now.bound }
     {
         self.bound
@@ -416,11 +416,11 @@ fn opened(
     first: u32,
     stride: u32,
     tenants: u32,
-    bound: u32,
+    bound: Bound,
 ) -> Result<Vec<Tenant>, AllocError>
     requires first { first < stride }
     requires tenants { tenants ≤ 256 }
-    requires bound { bound ≤ 1000 }
+    requires bound { bound.considerations ≤ 1000 }
     ensures fresh { IfOk result (λ made. AreFresh first stride bound made.items) }
     ensures all { IfOk result (λ made. ArePlacesBelow first stride tenants (length made.items)) }
 {

@@ -5,6 +5,7 @@ use Rattle.std.proofs.Math.Nat.{add-mul-div_left, add-mul-mod_self_left, div-eq_
 use Rattle.std.proofs.lemmas.Bool.{true≢false, eqb-true, eq-eqb, ne_eqb}
 use Rattle.std.proofs.lemmas.List.Sums.{sum_by-cons}
 use Rattle.std.proofs.lemmas.Option.{same_Some}
+use Rattle.sb_tenant.specs.declared.bound.Bound.{Bound}
 use Rattle.sb_tenant.specs.declared.reply.Entry.{Entry}
 use Rattle.sb_tenant.specs.Tenant.{Tenant}
 use Rattle.sb_tenant.specs.State.{State, session_at, is_open}
@@ -16,12 +17,12 @@ use Rattle.sb_desk.specs.Desks.{open_in}
 
 -- ---- one entry more
 
-replayed-snoc : (tenant bound : ℕ) (st : State) (es : List Entry) (e : Entry) → replayed tenant bound st (es ++ e ∷ []) ≡ after_entry tenant bound (replayed tenant bound st es) e
+replayed-snoc : (tenant : ℕ) (bound : Bound) (st : State) (es : List Entry) (e : Entry) → replayed tenant bound st (es ++ e ∷ []) ≡ after_entry tenant bound (replayed tenant bound st es) e
 replayed-snoc tenant bound st [] e = refl
 replayed-snoc tenant bound st (x ∷ es) e = replayed-snoc tenant bound (after_entry tenant bound st x) es e
 
 -- another session of the tenant stays open or closed
-pub beside : (others : (tenant bound : ℕ) → OthersStay tenant bound) (tenant bound : ℕ) (es new : List Entry) (e : Entry) (s : ℕ) → new ≡ es ++ e ∷ [] → (s ≡ e.session → ⊥) →
+pub beside : (others : (tenant : ℕ) (bound : Bound) → OthersStay tenant bound) (tenant : ℕ) (bound : Bound) (es new : List Entry) (e : Entry) (s : ℕ) → new ≡ es ++ e ∷ [] → (s ≡ e.session → ⊥) →
     is_open (session_at (state_of tenant bound new) s) ≡ is_open (session_at (state_of tenant bound es) s)
 beside others tenant bound es new e s longer apart =
     ap (λ (l : List Entry). is_open (session_at (state_of tenant bound l) s)) longer

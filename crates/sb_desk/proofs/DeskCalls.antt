@@ -2,6 +2,7 @@
 use Rattle.std.proofs.Common.{◌≡◌, ℕ, ◌+◌, ◌*◌, ◌/◌, ◌%◌, ◌<◌, ◌≤◌, Bool, true, false, not, ◌&&◌, List, [], ◌∷◌, length, get_or, set, Option, Some, None, Result, Ok, Err, refl, ap, sym, ◌∙◌, subst, arith, length-append, lt-ltb, inl, inr, IsTrue}
 use Rattle.std.specs.Prelude.{codes}
 use Rattle.std.proofs.lemmas.List.{set-get_or}
+use Rattle.sb_tenant.specs.declared.bound.Bound.{Bound}
 use Rattle.sb_syntax.specs.Text.{command_of}
 use Rattle.sb_syntax.specs.Tree.{Command, open_session, end_session}
 use Rattle.sb_tenant.specs.declared.reply.Answer.{Answer}
@@ -57,7 +58,7 @@ turn : (c c' : Cell) (t s : ℕ) (line : List ℕ) (given : Result Answer StepEr
 turn c c' t s line given hosted below did = subst (λ (b : Bool × Bool). AnswersBy b.0 b.1 c t s line given c') (λ i. (hosted i, lt-ltb s 8 below i)) did
 
 -- an answer with a number is one entry more
-extends : (t bound s : ℕ) (line : List ℕ) (before after : List Entry) (a : Answer) (n : ℕ) → Steps t bound before s line a after → a.number ≡ Some n → Extends t bound before s line a after
+extends : (t : ℕ) (bound : Bound) (s : ℕ) (line : List ℕ) (before after : List Entry) (a : Answer) (n : ℕ) → Steps t bound before s line a after → a.number ≡ Some n → Extends t bound before s line a after
 extends t bound s line before after a n (inl longer) has = longer
 extends t bound s line before after a n (inr full) has = absurd (apart n (sym (ap (λ (x : Answer). x.number) full.1) ∙ has))
   where
@@ -65,7 +66,7 @@ extends t bound s line before after a n (inr full) has = absurd (apart n (sym (a
     apart n e = cc
 
 -- one without a number is none
-stays_full : (t bound s : ℕ) (line : List ℕ) (before after : List Entry) (a : Answer) → Steps t bound before s line a after → a.number ≡ None → after ≡ before
+stays_full : (t : ℕ) (bound : Bound) (s : ℕ) (line : List ℕ) (before after : List Entry) (a : Answer) → Steps t bound before s line a after → a.number ≡ None → after ≡ before
 stays_full t bound s line before after a (inl longer) has = absurd (apart (length after) (sym has ∙ longer.1))
   where
     apart : (n : ℕ) → None ≡ Some n → ⊥
@@ -73,7 +74,7 @@ stays_full t bound s line before after a (inl longer) has = absurd (apart (lengt
 stays_full t bound s line before after a (inr full) has = full.2
 
 -- a step that isn't begun is none, either
-stays_unbegun : (bound t : ℕ) (before after : List Entry) (event : ℕ × List ℕ) (e : StepError) → IsTurn bound t before event (Err e) after → after ≡ before
+stays_unbegun : (bound : Bound) (t : ℕ) (before after : List Entry) (event : ℕ × List ℕ) (e : StepError) → IsTurn bound t before event (Err e) after → after ≡ before
 stays_unbegun bound t before after event NoTenant h = absurd h
 stays_unbegun bound t before after event NoSession h = absurd h
 stays_unbegun bound t before after event NotBegun h = h.0
@@ -129,7 +130,7 @@ module _ (p : Place) (c c' : Cell) (parts : ℕ) (seats : List (Option SessionSe
         omega (arith, all, more, whole, few)
 
     -- with the seat where it belongs
-    reseated : ((tenant bound : ℕ) → OthersStay tenant bound) → (o : Option SessionSeat) (left : ℕ) → left + 1 ≡ parts → SeatAt p.table (number_of p.cells t s) (open_in c' t s) o → IsDesk p c' left (set seats at o)
+    reseated : ((tenant : ℕ) (bound : Bound) → OthersStay tenant bound) → (o : Option SessionSeat) (left : ℕ) → left + 1 ≡ parts → SeatAt p.table (number_of p.cells t s) (open_in c' t s) o → IsDesk p c' left (set seats at o)
     reseated others o left part fits =
         let more = grown in
         let grows : left + length (trails c' t) ≡ parts + length (trails c t) = omega (arith, more, part) in
@@ -138,7 +139,7 @@ module _ (p : Place) (c c' : Cell) (parts : ℕ) (seats : List (Option SessionSe
         fits
 
     -- an open session that stays open has its seat with itself
-    pub still_open : ((tenant bound : ℕ) → OthersStay tenant bound) → (left : ℕ) → left + 1 ≡ parts → open_in c t s ≡ true → open_in c' t s ≡ true → IsDesk p c' left seats
+    pub still_open : ((tenant : ℕ) (bound : Bound) → OthersStay tenant bound) → (left : ℕ) → left + 1 ≡ parts → open_in c t s ≡ true → open_in c' t s ≡ true → IsDesk p c' left seats
     still_open others left part before after =
         subst (λ (l : List (Option SessionSeat)). IsDesk p c' left l) (set-get_or seats at None)
         (reseated others seat left part (subst (λ (b : Bool). SeatAt p.table (number_of p.cells t s) b seat) (before ∙ sym after) (d.seated t s hosted below)))
@@ -147,11 +148,11 @@ module _ (p : Place) (c c' : Cell) (parts : ℕ) (seats : List (Option SessionSe
     bound_is = λ i. is_open (session_at (state_of t (turned.2.2 i) (trails c' t)) s)
 
     -- a session that was open is closed by its `end` alone
-    pub closed_by : ((tenant bound : ℕ) → EndsClose tenant bound) → open_in c t s ≡ true → open_in c' t s ≡ not (closes line a.reply)
+    pub closed_by : ((tenant : ℕ) (bound : Bound) → EndsClose tenant bound) → open_in c t s ≡ true → open_in c' t s ≡ not (closes line a.reply)
     closed_by ends up = bound_is ∙ ends t c.bound (states c t) (state_of t c.bound (trails c' t)) (entry_of s line a.reply) longer.2 up
 
     -- with `open` the session has its seat
-    pub admitted : ((tenant bound : ℕ) → OthersStay tenant bound) → ((tenant bound : ℕ) → OwnOpens tenant bound) → line ≡ codes "open" → a.reply ≡ told.Ok → (k : ℕ) → k ≡ at → (o : Option SessionSeat) → o ≡ None → (left : ℕ) → left + 1 ≡ parts → IsDesk p c' left (set seats k o)
+    pub admitted : ((tenant : ℕ) (bound : Bound) → OthersStay tenant bound) → ((tenant : ℕ) (bound : Bound) → OwnOpens tenant bound) → line ≡ codes "open" → a.reply ≡ told.Ok → (k : ℕ) → k ≡ at → (o : Option SessionSeat) → o ≡ None → (left : ℕ) → left + 1 ≡ parts → IsDesk p c' left (set seats k o)
     admitted others own is ok k place o none left part =
         let was : Bool = open_in c t s in
         let up : open_in c' t s ≡ true = bound_is
@@ -162,7 +163,7 @@ module _ (p : Place) (c c' : Cell) (parts : ℕ) (seats : List (Option SessionSe
         subst (λ (x : ℕ). IsDesk p c' left (set seats x o)) (sym place) (reseated others o left part out)
 
     -- the seat of a session that is closed is back at its place
-    pub given_back : ((tenant bound : ℕ) → OthersStay tenant bound) → open_in c' t s ≡ false → (k : ℕ) → k ≡ at → (seat : SessionSeat) → IsSeat p.table (number_of p.cells t s) seat → (left : ℕ) → left + 1 ≡ parts → IsDesk p c' left (set seats k (Some seat))
+    pub given_back : ((tenant : ℕ) (bound : Bound) → OthersStay tenant bound) → open_in c' t s ≡ false → (k : ℕ) → k ≡ at → (seat : SessionSeat) → IsSeat p.table (number_of p.cells t s) seat → (left : ℕ) → left + 1 ≡ parts → IsDesk p c' left (set seats k (Some seat))
     given_back others shut k place seat of left part =
         subst (λ (x : ℕ). IsDesk p c' left (set seats x (Some seat))) (sym place)
         (reseated others (Some seat) left part (subst (λ (b : Bool). SeatAt p.table (number_of p.cells t s) b (Some seat)) (sym shut) of))

@@ -1,5 +1,6 @@
 -- Machine: what holds of a session's receipts and of a desk at any time.
 use Rattle.std.specs.Prelude.{ℕ, ◌+◌, ◌*◌, ◌/◌, ◌^◌, ◌≤◌, ◌<◌, ◌≡◌, ◌==◌, ◌&&◌, ◌%◌, nat_lt, Bool, true, false, List, length, slice_index_or, codes, Option, Some, None, IsTrue}
+use Rattle.sb_tenant.specs.declared.bound.Bound.{Bound}
 use Rattle.atomic_table.specs.Seated.{TableId}
 use Rattle.sb_cell.specs.Hosting.{entry_count}
 use Rattle.sb_cell.specs.Tenants.{Cell, hosts}
@@ -41,7 +42,7 @@ pub record Place : Type 0 where
   pub table : TableId
   pub tenants : ℕ
   pub cells : ℕ
-  pub bound : ℕ
+  pub bound : Bound
   pub first : ℕ
 
 -- the desk has the seat of a session exactly while it is closed
@@ -71,7 +72,7 @@ pub record IsDesk (p : Place) (c : Cell) (parts : ℕ) (seats : List (Option Ses
   pub seated : (t s : ℕ) → IsTrue (hosts c t) → s < 8 → SeatAt p.table (number_of p.cells t s) (open_in c t s) (seat_of p.cells seats t s)
 
 -- the desk of this cell of a host, which has cells and no more tenants than it may
-abbrev pub IsDeskOf : TableId → ℕ → ℕ → ℕ → ℕ → Cell → ℕ → List (Option SessionSeat) → Type 0
+abbrev pub IsDeskOf : TableId → ℕ → ℕ → Bound → ℕ → Cell → ℕ → List (Option SessionSeat) → Type 0
 IsDeskOf table tenants cells bound first c parts seats =
     (0 < cells) × (tenants ≤ 256)
     × IsDesk (record { table = table; tenants = tenants; cells = cells; bound = bound; first = first }) c parts seats

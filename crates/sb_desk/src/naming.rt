@@ -7,6 +7,7 @@ use std::sync::ledger::Ledger;
 pub trait Naming: Ledger {
     ghost use Rattle.std.specs.Prelude.{ℕ};
     ghost use Rattle.atomic_table.specs.Seated.{TableId};
+    ghost use Rattle.sb_tenant.specs.declared.bound.Bound.{Bound};
 
     ghost table: { TableId };
 
@@ -14,10 +15,11 @@ pub trait Naming: Ledger {
 
     ghost cells: { ℕ };
 
-    ghost bound: { ℕ };
+    ghost bound: { Bound };
 }
 
 impl Naming for Brand {
+    ghost use Rattle.std.specs.Prelude.{None};
     ghost use Rattle.sb_desk.specs.Seats.{no_table};
 
     ghost table = { no_table };
@@ -26,5 +28,5 @@ impl Naming for Brand {
 
     ghost cells = { 0 };
 
-    ghost bound = { 0 };
+    ghost bound = { record { considerations = 0; work = None } };
 }

@@ -4,6 +4,7 @@ use Rattle.std.specs.Global.{Global}
 use Rattle.std.specs.List.Sorted.{IsPermutation}
 use Rattle.std.proofs.lemmas.Bool.{cases_lt}
 use Rattle.std.proofs.lemmas.List.Sorted.{IsPermutation-refl, length_permutation}
+use Rattle.sb_tenant.specs.declared.bound.Bound.{Bound}
 use Rattle.sb_tenant.specs.declared.reply.Entry.{Entry}
 use Rattle.sb_tenant.specs.declared.volume.Volume.{Volume}
 use Rattle.sb_tenant.specs.Limits.{session_count}
@@ -20,7 +21,7 @@ use Rattle.sb_host.specs.Finish.{AgreeBefore, Agrees, AreTrails, AreKeptAs, Fini
 use Rattle.sb_host.specs.Rows.{row_past}
 
 -- an audit against legal trails is the whole check
-pub finishes : (bound tenants : ℕ) (stubs : List Stub) (trails : List (Vec Entry Global)) (volumes : List Volume) (result : Result Report FinishError)
+pub finishes : (bound : Bound) (tenants : ℕ) (stubs : List Stub) (trails : List (Vec Entry Global)) (volumes : List Volume) (result : Result Report FinishError)
     → AreTrails bound tenants trails → AreKeptAs bound trails volumes → Audits trails volumes stubs result → Finishes bound tenants stubs result
 finishes bound tenants stubs trails volumes (Ok report) legal kept h =
     subst (λ (p : List (Vec Entry Global) × List Volume). AreTrails bound tenants p.0 × ((t s : ℕ) → s < session_count → Agrees t s stubs p.0) × AreKeptAs bound p.0 p.1)

@@ -5,6 +5,7 @@ use Rattle.std.specs.List.Sorted.{IsPermutation}
 use Rattle.std.proofs.lemmas.Bool.{cases_order, ne_eqb}
 use Rattle.std.proofs.lemmas.List.Sums.{sum_by-cons}
 use Rattle.std.proofs.lemmas.List.Sorted.{length_permutation}
+use Rattle.sb_tenant.specs.declared.bound.Bound.{Bound}
 use Rattle.sb_tenant.specs.declared.reply.Entry.{Entry}
 use Rattle.sb_tenant.specs.Limits.{session_count}
 use Rattle.sb_tenant.specs.State.{State}
@@ -60,7 +61,7 @@ length_by false r rest = refl
 one_longer : (n : ℕ) → n + 1 ≡ suc n
 one_longer n = omega arith
 
-module _ (tenant bound : ℕ) where
+module _ (tenant : ℕ) (bound : Bound) where
   wanted_count : (n : ℕ) (es : List Entry) (before after : State) → IsLegal tenant bound before es after → sum_from (λ s. length (receipts_of s n es)) 0 session_count ≡ length es
   wanted_count n [] before after h = no_sum (λ s. 0) 0 8 (λ s. refl)
   wanted_count n (e ∷ es) before after h =
@@ -106,7 +107,7 @@ pub none_count : (rows : List (Vec Receipt Global)) → ((k : ℕ) → row_at ro
 none_count rows h = rows_count rows 0 (λ k. 0) (λ i below. ap length (h i)) ∙ no_sum (λ k. 0) 0 (length rows) (λ k. refl)
 
 -- rows that are the entries of a legal trail have as many receipts as it has entries
-pub entries_count : (tenant bound : ℕ) (trail : List Entry) (before after : State) (rows : List (Vec Receipt Global)) → IsLegal tenant bound before trail after → length rows ≡ session_count → AllAreEntries trail (row_at rows) → receipt_count rows ≡ length trail
+pub entries_count : (tenant : ℕ) (bound : Bound) (trail : List Entry) (before after : State) (rows : List (Vec Receipt Global)) → IsLegal tenant bound before trail after → length rows ≡ session_count → AllAreEntries trail (row_at rows) → receipt_count rows ≡ length trail
 entries_count tenant bound trail before after rows legal long all =
     rows_count rows 0 (λ s. length (receipts_of s 1 trail))
     (λ i below. sym (length_permutation (row_at rows i) (receipts_of i 1 trail) (all i (omega (arith, below, long)))) ∙ from_none (λ s. length (receipts_of s 1 trail)) i)

@@ -1,6 +1,7 @@
 -- An answer has no number exactly where it says that the trail is full.
 use Rattle.std.proofs.Common.{◌≡◌, ◌∙◌, ap, sym, subst, ℕ, Bool, true, false, List, Ok}
 use Rattle.std.proofs.lemmas.Option.{same_Some}
+use Rattle.sb_tenant.specs.declared.bound.Bound.{Bound}
 use Rattle.sb_tenant.specs.declared.reply.Answer.{Answer}
 use Rattle.sb_tenant.specs.Limits.{is_session}
 use Rattle.sb_tenant.specs.TrailLaws.{AnswersAreNumbered}
@@ -9,7 +10,7 @@ use Rattle.sb_desk.specs.Desks.{Enters, in_transaction}
 use Rattle.sb_desk.specs.Receipts.{Receipts, after, prepared}
 use Rattle.sb_desk.specs.Calls.{AnswersOnce, Called, IsBehind, IsNumbered, Session, after_call, shown}
 
-module _ (law : (tenant bound : ℕ) → AnswersAreNumbered tenant bound) where
+module _ (law : (tenant : ℕ) (bound : Bound) → AnswersAreNumbered tenant bound) where
   by_event : (hosted is_one : Bool) (c c' : Cell) (t s : ℕ) (line : List ℕ) (a : Answer) → AnswersBy hosted is_one c t s line (Ok a) c' → IsNumbered a
   by_event false is_one c c' t s line a h = absurd (let e = h.0 in cc)
   by_event true false c c' t s line a h = absurd (let e = h.0 in cc)

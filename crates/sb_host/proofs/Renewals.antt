@@ -5,6 +5,7 @@ use Rattle.std.specs.Global.{Global}
 use Rattle.std.specs.List.Sorted.{IsPermutation}
 use Rattle.std.proofs.lemmas.Bool.{false≢true}
 use Rattle.std.proofs.lemmas.List.Sorted.{IsPermutation-refl, IsPermutation-sym, IsPermutation-trans, length_permutation}
+use Rattle.sb_tenant.specs.declared.bound.Bound.{Bound}
 use Rattle.sb_tenant.specs.declared.reply.Entry.{Entry}
 use Rattle.sb_tenant.specs.Tenant.{Tenant, state}
 use Rattle.sb_tenant.specs.Trail.{state_of}
@@ -77,7 +78,7 @@ module _ (c : Cell) (held : ℕ → List Receipt) (fresh : Tenant) (all : AllAre
   of_old old c' r = subst (λ (trail : List Entry). AllAreEntries trail held) (ap trail_of r.before) all
 
 -- as a host tells it
-pub refused : (bound : ℕ) (stubs : VolumeStubs) (fresh : Tenant) (c : Cell) (why : RenewError) → IsCellOf bound c fresh.id → IsUnrenewedBy c (held_by stubs) fresh why → VolumeIsUnrenewed bound stubs fresh why
+pub refused : (bound : Bound) (stubs : VolumeStubs) (fresh : Tenant) (c : Cell) (why : RenewError) → IsCellOf bound c fresh.id → IsUnrenewedBy c (held_by stubs) fresh why → VolumeIsUnrenewed bound stubs fresh why
 refused bound stubs fresh c OtherTenant is h = absurd h
 refused bound stubs fresh c NotClosed is h = absurd h
 refused bound stubs fresh c NoMemory is h = absurd h
@@ -154,7 +155,7 @@ module _ (f g : ℕ → List Receipt) (same : (s : ℕ) → s < session_count �
   unrenewed_too c fresh NoMemory h = absurd h
 
 -- as a host tells it, of the stubs whose receipts the volume had
-module _ (tenants bound : ℕ) (stubs : List Stub) (fresh : Tenant) (own : AreOf fresh.id stubs) (volume : VolumeStubs) (held : AreHeld fresh.id stubs (held_by volume)) where
+module _ (tenants : ℕ) (bound : Bound) (stubs : List Stub) (fresh : Tenant) (own : AreOf fresh.id stubs) (volume : VolumeStubs) (held : AreHeld fresh.id stubs (held_by volume)) where
   told : (c : Cell) (why : RenewError) → IsUnrenewedBy c (held_by volume) fresh why → IsUnrenewedBy c (λ s. gathered fresh.id s stubs) fresh why
   told c why h = unrenewed_too (λ s. gathered fresh.id s stubs) (held_by volume) held c fresh why h
 
@@ -171,7 +172,7 @@ module _ (tenants bound : ℕ) (stubs : List Stub) (fresh : Tenant) (own : AreOf
   refused_by NoMemory h = h
 
 -- where stubs made no volume
-pub ungathered : (tenants bound : ℕ) (stubs : List Stub) (fresh : Tenant) (why : RenewError) → IsUngathered tenants fresh.id stubs why → IsUnrenewed tenants bound stubs fresh why
+pub ungathered : (tenants : ℕ) (bound : Bound) (stubs : List Stub) (fresh : Tenant) (why : RenewError) → IsUngathered tenants fresh.id stubs why → IsUnrenewed tenants bound stubs fresh why
 ungathered tenants bound stubs fresh (Refused NoTenant) h = h
 ungathered tenants bound stubs fresh (Refused OtherBound) h = absurd h
 ungathered tenants bound stubs fresh (Refused Open) h = absurd h

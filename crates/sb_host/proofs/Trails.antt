@@ -5,6 +5,7 @@ use Rattle.std.specs.List.{Contains}
 use Rattle.std.proofs.lemmas.Bool.{and_from, and_parts, cases_eq, eq-eqb, eqb-true, lt-ltb, ne_eqb}
 use Rattle.std.proofs.lemmas.List.{get_or-set_other, get_or-set_same}
 use Rattle.std.proofs.lemmas.List.Elements.{All-head, All-tail}
+use Rattle.sb_tenant.specs.declared.bound.Bound.{Bound}
 use Rattle.sb_tenant.specs.declared.reply.Entry.{Entry}
 use Rattle.sb_tenant.specs.declared.volume.Volume.{Volume}
 use Rattle.sb_tenant.specs.Tenant.{Tenant}
@@ -57,7 +58,7 @@ abbrev tenant_of : Tenant → Option Tenant → Tenant
 tenant_of d None = d
 tenant_of d (Some t) = t
 
-module _ (c : Cell) (cells tenants bound class : ℕ) (own : List Tenant) (rows after : List (Vec Entry Global)) (volumes later : List Volume) (is_bound : c.bound ≡ bound)
+module _ (c : Cell) (cells tenants : ℕ) (bound : Bound) (class : ℕ) (own : List Tenant) (rows after : List (Vec Entry Global)) (volumes later : List Volume) (is_bound : c.bound ≡ bound)
     (hosted : (t : ℕ) → hosts c t ≡ ((t % cells == class) && nat_lt t tenants))
     (each : All (λ t. (hosts c t.id ≡ true) × (t.bound ≡ c.bound) × (tenant_at c t.id ≡ Some t)) own)
     (whole : (t : ℕ) → hosts c t ≡ true → (u : Tenant) × Contains own u × (u.id ≡ t))
@@ -101,15 +102,15 @@ module _ (c : Cell) (cells tenants bound class : ℕ) (own : List Tenant) (rows 
           (before t few (omega arith))
 
 -- a number past the last cell is no tenant's
-pub no_cell : (cells bound tenants class : ℕ) (trails : List (Vec Entry Global)) (volumes : List Volume) → 0 < cells → cells ≤ class → AreTrailsOf cells bound tenants class trails volumes → AreTrailsOf cells bound tenants (class + 1) trails volumes
+pub no_cell : (cells : ℕ) (bound : Bound) (tenants class : ℕ) (trails : List (Vec Entry Global)) (volumes : List Volume) → 0 < cells → cells ≤ class → AreTrailsOf cells bound tenants class trails volumes → AreTrailsOf cells bound tenants (class + 1) trails volumes
 no_cell cells bound tenants class trails volumes some past h = (h.0, h.1, λ t few below. h.2 t few (omega arith), h.3)
 
 -- ---- all cells
 
-kept : (bound t : ℕ) (trail : List Entry) (volume : Volume) → IsKeptAs bound t trail volume → IsKept bound t trail
+kept : (bound : Bound) (t : ℕ) (trail : List Entry) (volume : Volume) → IsKeptAs bound t trail volume → IsKept bound t trail
 kept bound t trail volume (c, own, here, is_bound, is, same, its) = (c, here, is_bound, same ∙ sym (ap trail_of is))
 
-module _ (cells bound tenants class : ℕ) (trails : List (Vec Entry Global)) (volumes : List Volume) (some : 0 < cells) (all : cells ≤ class) (h : AreTrailsOf cells bound tenants class trails volumes) where
+module _ (cells : ℕ) (bound : Bound) (tenants class : ℕ) (trails : List (Vec Entry Global)) (volumes : List Volume) (some : 0 < cells) (all : cells ≤ class) (h : AreTrailsOf cells bound tenants class trails volumes) where
   pub all_trails : AreTrails bound tenants trails
   all_trails = (h.0, h.1, λ t few. kept bound t (row_at trails t) (volume_at volumes t) (h.2 t few (omega arith)))
 

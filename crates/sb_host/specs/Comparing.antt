@@ -2,6 +2,7 @@
 use Rattle.std.specs.Prelude.{ℕ, ◌==◌, if◌then◌else◌, ◌∷◌, ◌++◌, ◌*◌, ◌/◌, ◌%◌, ◌≡◌, ◌<◌, ◌≤◌, nat_le, Bool, MatchBool, List, [], length, slice_index_or, take, Option, Some, None, Result, Ok, Err, Vec}
 use Rattle.std.specs.Global.{Global}
 use Rattle.std.specs.List.Sorted.{IsPermutation}
+use Rattle.sb_tenant.specs.declared.bound.Bound.{Bound}
 use Rattle.sb_tenant.specs.declared.reply.Entry.{Entry}
 use Rattle.sb_tenant.specs.declared.volume.Volume.{Volume}
 use Rattle.sb_tenant.specs.Limits.{session_count}
@@ -101,7 +102,7 @@ abbrev pub volume_by : ℕ → Volume → List Tenant → Volume
 volume_by n held ts = last_by (λ (t : Tenant). t.volume) n held ts
 
 -- one legal trail and one volume for each tenant; and those of the first cells are the ones that they keep
-abbrev pub AreTrailsOf : ℕ → ℕ → ℕ → ℕ → List (Vec Entry Global) → List Volume → Type 0
+abbrev pub AreTrailsOf : ℕ → Bound → ℕ → ℕ → List (Vec Entry Global) → List Volume → Type 0
 AreTrailsOf cells bound tenants count trails volumes =
     (length trails ≡ tenants) × ((t : ℕ) → IsTrail t bound (row_at trails t))
     × ((t : ℕ) → t < tenants → t % cells < count → IsKeptAs bound t (row_at trails t) (volume_at volumes t))

@@ -2,6 +2,7 @@
 use Rattle.std.specs.Prelude.{ℕ, zero, suc, true, ◌+◌, ◌*◌, ◌≡◌, ◌<◌, ◌≤◌, ◌==◌, ◌&&◌, if◌then◌else◌, List, [], ◌∷◌, ◌++◌, length, slice_index_or, Option, Some, None, Result, Ok, Err, Vec}
 use Rattle.std.specs.Global.{Global}
 use Rattle.std.specs.List.Sorted.{IsNonDecreasingBy, IsPermutation}
+use Rattle.sb_tenant.specs.declared.bound.Bound.{Bound}
 use Rattle.sb_cell.specs.Tenants.{Cell, hosts, tenant_at, trails as trail_in}
 use Rattle.sb_tenant.specs.declared.reply.Entry.{Entry}
 use Rattle.sb_tenant.specs.declared.volume.Volume.{Volume}
@@ -69,11 +70,11 @@ AgreeBefore t s stubs trails = (u r : ℕ) → r < session_count → rank u r < 
 -- ---- the answer
 
 -- the trail that a cell keeps of this tenant
-abbrev pub IsKept : ℕ → ℕ → List Entry → Type 0
+abbrev pub IsKept : Bound → ℕ → List Entry → Type 0
 IsKept bound t trail = (c : Cell) × (hosts c t ≡ true) × (c.bound ≡ bound) × (trail ≡ trail_in c t)
 
 -- one trail for each tenant; each is legal, and the one that the tenant's cell keeps
-abbrev pub AreTrails : ℕ → ℕ → List (Vec Entry Global) → Type 0
+abbrev pub AreTrails : Bound → ℕ → List (Vec Entry Global) → Type 0
 AreTrails bound tenants trails =
     (length trails ≡ tenants) × ((t : ℕ) → IsTrail t bound (row_at trails t)) × ((t : ℕ) → t < tenants → IsKept bound t (row_at trails t))
 
@@ -82,12 +83,12 @@ abbrev pub volume_at : List Volume → ℕ → Volume
 volume_at volumes n = slice_index_or volumes n first_volume
 
 -- a cell keeps this tenant, whose trail this is, and this volume of its life
-abbrev pub IsKeptAs : ℕ → ℕ → List Entry → Volume → Type 0
+abbrev pub IsKeptAs : Bound → ℕ → List Entry → Volume → Type 0
 IsKeptAs bound t trail volume =
     (c : Cell) × (own : Tenant) × (hosts c t ≡ true) × (c.bound ≡ bound) × (tenant_at c t ≡ Some own) × (trail ≡ own.trail) × (volume ≡ own.volume)
 
 -- the trails are those volumes of their tenants' lives
-abbrev pub AreKeptAs : ℕ → List (Vec Entry Global) → List Volume → Type 0
+abbrev pub AreKeptAs : Bound → List (Vec Entry Global) → List Volume → Type 0
 AreKeptAs bound trails volumes =
     (length volumes ≡ length trails) × ((t : ℕ) → t < length trails → IsKeptAs bound t (row_at trails t) (volume_at volumes t))
 
@@ -106,7 +107,7 @@ IsMismatch t s stubs trails =
     AgreeBefore t s stubs trails × (length (wanted t s trails) ≤ length (gathered t s stubs)) × (Agrees t s stubs trails → ⊥)
 
 -- all sessions agree with the trails that are given, with their volumes; or there are trails with which the first one that is told doesn't; or memory ran out
-abbrev pub Finishes : ℕ → ℕ → List Stub → Result Report FinishError → Type 0
+abbrev pub Finishes : Bound → ℕ → List Stub → Result Report FinishError → Type 0
 Finishes bound tenants stubs (Ok report) =
     AreTrails bound tenants report.trails.items × ((t s : ℕ) → s < session_count → Agrees t s stubs report.trails.items)
     × AreKeptAs bound report.trails.items report.volumes.items

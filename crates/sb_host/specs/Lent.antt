@@ -3,6 +3,7 @@ use Rattle.std.specs.Prelude.{ℕ, ◌≡◌, List, [], Result, Ok, Err}
 use mir.Syntax.{named}
 use denote.RattleType.{RattleType}
 use denote.Ref.{Bor}
+use Rattle.sb_tenant.specs.declared.bound.Bound.{Bound}
 use Rattle.atomic_table.specs.Seated.{TableId}
 use Rattle.sb_tenant.specs.declared.reply.Answer.{Answer}
 use Rattle.sb_desk.specs.declared.desk.CallError.{CallError}
@@ -15,7 +16,7 @@ CallsTo old line (Ok answer) new =
 CallsTo old line (Err e) new = new ≡ old
 
 -- the type of a session, in a host of these names
-abbrev pub session_of : RattleType → TableId → ℕ → ℕ → ℕ → ℕ → ℕ → RattleType
+abbrev pub session_of : RattleType → TableId → ℕ → ℕ → Bound → ℕ → ℕ → RattleType
 session_of N table tenants cells bound name parts =
     the_row (record { mir = named 1; lft = [] }) N (record { table = table; tenants = tenants; cells = cells; bound = bound })
     (record { name = name; parts = parts })

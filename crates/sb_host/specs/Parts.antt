@@ -18,5 +18,5 @@ seen o = record {
 abbrev pub AreParts : Inside → Type 0
 AreParts o =
     (0 < o.numbers.tenants) × (o.numbers.tenants ≤ 256) × (0 < o.numbers.cells) × (o.numbers.cells ≤ 16)
-    × (o.numbers.bound ≤ 1000) × (o.blank.parts ≡ 17 * 2 ^ 32)
+    × (o.numbers.bound.considerations ≤ 1000) × (o.blank.parts ≡ 17 * 2 ^ 32)
     × (o.all.table_id ≡ o.seats.shared.table_id) × (o.seats.shared.table_id.words ≡ 1) × (o.all.me ≡ (below 32768, []))

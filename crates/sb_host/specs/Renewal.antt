@@ -2,6 +2,7 @@
 use Rattle.std.specs.Prelude.{ℕ, true, ◌≡◌, ◌<◌, ◌≤◌, List, length}
 use Rattle.std.specs.List.{All}
 use Rattle.std.specs.List.Sorted.{IsPermutation}
+use Rattle.sb_tenant.specs.declared.bound.Bound.{Bound}
 use Rattle.sb_tenant.specs.declared.reply.Entry.{Entry}
 use Rattle.sb_tenant.specs.Limits.{session_count}
 use Rattle.sb_tenant.specs.Tenant.{Tenant}
@@ -47,7 +48,7 @@ HasOthers trail held s =
 -- ---- the answer
 
 -- Of a cell's tenant the receipts were exactly the entries of the trail that has ended, and it was renewed. The stubs of the opening have those of the new trail, in order.
-abbrev pub IsRenewed : ℕ → List Stub → Tenant → Tenant → List Stub → Type 0
+abbrev pub IsRenewed : Bound → List Stub → Tenant → Tenant → List Stub → Type 0
 IsRenewed bound stubs fresh old opening =
     AreOf fresh.id stubs
     × ((c c' : Cell) × (c.bound ≡ bound) × Renews c old fresh c' × AllAreEntries old.trail (λ s. gathered fresh.id s stubs))
@@ -70,7 +71,7 @@ IsUnrenewedBy c held fresh NotClosed = ⊥
 IsUnrenewedBy c held fresh NoMemory = ⊥
 
 -- Why a host's isn't: it has no such tenant; receipts are another's; the cell that hosts it refuses. Where a session isn't closed yet, or memory ran out, the receipts are the tenant's.
-abbrev pub IsUnrenewed : ℕ → ℕ → List Stub → Tenant → RenewError → Type 0
+abbrev pub IsUnrenewed : ℕ → Bound → List Stub → Tenant → RenewError → Type 0
 IsUnrenewed tenants bound stubs fresh (Refused NoTenant) = tenants ≤ fresh.id
 IsUnrenewed tenants bound stubs fresh OtherTenant = AreOf fresh.id stubs → ⊥
 IsUnrenewed tenants bound stubs fresh NotClosed = AreOf fresh.id stubs

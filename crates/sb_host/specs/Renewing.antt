@@ -2,6 +2,7 @@
 use Rattle.std.specs.Prelude.{ℕ, zero, suc, true, ◌≡◌, ◌⊎◌, ◌<◌, ◌≤◌, ◌+◌, ◌==◌, if◌then◌else◌, List, [], ◌∷◌, length, map, sum_by, Option, Some, None, Vec, vec_len, vec_capacity}
 use Rattle.std.specs.Global.{Global}
 use Rattle.std.specs.List.Sorted.{IsPermutation}
+use Rattle.sb_tenant.specs.declared.bound.Bound.{Bound}
 use Rattle.sb_tenant.specs.Limits.{session_count}
 use Rattle.sb_tenant.specs.Tenant.{Tenant, state}
 use Rattle.sb_tenant.specs.Volumes.{AreClosed}
@@ -69,7 +70,7 @@ IsOpening trail rows =
     (length rows ≡ session_count) × (receipt_count rows ≡ length trail) × AreInOrderOf trail (row_at rows)
 
 -- the cell hosts the tenant of that number, with this bound
-abbrev pub IsCellOf : ℕ → Cell → ℕ → Type 0
+abbrev pub IsCellOf : Bound → Cell → ℕ → Type 0
 IsCellOf bound c t = (hosts c t ≡ true) × (c.bound ≡ bound)
 
 -- ---- before receipts are compared
@@ -97,7 +98,7 @@ DiffersFirst trail held NoMemory = ⊥
 -- ---- by the receipts of a volume
 
 -- The receipts were exactly the entries of the trail that has ended, and the tenant was renewed. The receipts of the new volume are those of its opening.
-abbrev pub VolumeIsRenewed : ℕ → VolumeStubs → Tenant → Tenant → VolumeStubs → Type 0
+abbrev pub VolumeIsRenewed : Bound → VolumeStubs → Tenant → Tenant → VolumeStubs → Type 0
 VolumeIsRenewed bound stubs fresh old next =
     (c c' : Cell) × (c.bound ≡ bound) × Renews c old fresh c' × AllAreEntries old.trail (held_by stubs)
     × (next.tenant ≡ stubs.tenant) × AreInOrderOf fresh.trail (held_by next)
@@ -107,7 +108,7 @@ abbrev pub KeepsRows : VolumeStubs → VolumeStubs → Type 0
 KeepsRows stubs back = (back.tenant ≡ stubs.tenant) × ((s : ℕ) → s < session_count → IsPermutation (held_by stubs s) (held_by back s))
 
 -- why there is no renewal
-abbrev pub VolumeIsUnrenewed : ℕ → VolumeStubs → Tenant → RenewError → Type 0
+abbrev pub VolumeIsUnrenewed : Bound → VolumeStubs → Tenant → RenewError → Type 0
 VolumeIsUnrenewed bound stubs fresh NoMemory = Unit {0}
 VolumeIsUnrenewed bound stubs fresh OtherTenant = ⊥
 VolumeIsUnrenewed bound stubs fresh NotClosed = ⊥

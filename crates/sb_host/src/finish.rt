@@ -4,6 +4,7 @@ ghost use Rattle.sb_tenant.specs.Trail.{IsTrail};
 ghost use Rattle.sb_host.specs.Comparing.{AreTrailsOf, Audits, trail_by, volume_by};
 ghost use Rattle.sb_host.specs.Finish.{Finishes, row_at, steps_in, volume_at};
 ghost use Rattle.sb_host.specs.Lives.{life_steps, steps_made_in};
+ghost use Rattle.sb_tenant.specs.declared.bound.Bound.{Bound};
 
 use crate::comparing::check_all;
 use crate::gathering::{first_stray, rows_of};
@@ -149,7 +150,7 @@ pub(crate) fn put<N: Naming, const F: u32>(
 
 /// Puts the trails of these tenants, and their volumes, at their places.
 fn put_all(trails: &mut Vec<Vec<Entry>>, volumes: &mut Vec<Volume>, tenants: Vec<Tenant>)
-    ghost bound: { ℕ }
+    ghost bound: { Bound }
     requires legal { (n : ℕ) → IsTrail n bound (row_at trails.old.items n) }
     requires tenants { All (λ t. (t.id < length trails.old.items) × (t.bound ≡ bound)) tenants.items }
     requires volumes { length volumes.old.items ≡ length trails.old.items }

@@ -12,6 +12,7 @@ use crossbeam_utils::CachePadded;
 use sb_cell::{Cell, ample_buckets};
 use sb_desk::seats::{SeatTable, Seats, SessionSeat, open_seats, split, split_block};
 use sb_desk::{Desk, Naming};
+use sb_tenant::Bound;
 use std::alloc::{AllocError, Global};
 use std::marker::Model;
 use std::sync::Mutex;
@@ -25,7 +26,7 @@ const CELL_PARTS: u64 = 1 << 32;
 pub(crate) struct HostSize {
     pub(crate) tenants: u32,
     pub(crate) cells: u32,
-    pub(crate) bound: u32,
+    pub(crate) bound: Bound,
 }
 
 /// The parts of a host.
@@ -51,10 +52,10 @@ impl Model for Opened {
 impl Opened {
     /// The parts of a host with so many tenants and cells, and with `bound` as the tenants' consideration limit. Error:
     /// out of memory.
-    pub fn new(alloc: Global, tenants: u32, cells: u32, bound: u32) -> Result<Opened, AllocError>
+    pub fn new(alloc: Global, tenants: u32, cells: u32, bound: Bound) -> Result<Opened, AllocError>
         requires tenants { (0 < tenants) × (tenants ≤ 256) }
         requires cells { (0 < cells) × (cells ≤ 16) }
-        requires bound { bound ≤ 1000 }
+        requires bound { bound.considerations ≤ 1000 }
         ensures { IfOk result (λ o. (o.tenants ≡ tenants) × (o.cells ≡ cells) × (o.bound ≡ bound)) }
     {
         let (seats, all) = open_seats(alloc, 32_768)?;

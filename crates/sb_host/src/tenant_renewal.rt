@@ -1,5 +1,6 @@
 //! A tenant of a host is renewed by what its closed sessions have left.
 ghost use Rattle.std.specs.Prelude.{◌≡◌, ◌<◌, length, IfErr, IfOk, IfSome, IsFalse, IsTrue, ℕ};
+ghost use Rattle.sb_tenant.specs.declared.bound.Bound.{Bound};
 ghost use Rattle.sb_tenant.specs.Limits.{session_count};
 ghost use Rattle.sb_host.specs.Finish.{gathered, row_at};
 ghost use Rattle.sb_host.specs.Renewal.{AreOf, GivesBack, IsRenewed, IsUnrenewed};
@@ -188,7 +189,7 @@ pub trait Renewing: Lending {
         fresh: Tenant,
         stubs: Vec<Stub>,
     ) -> Result<Renewal, NotRenewed>
-        ensures ok { IfOk result (λ r. (bound : ℕ) × IsRenewed bound stubs.items fresh r.old r.opening.items) }
+        ensures ok { IfOk result (λ r. (bound : Bound) × IsRenewed bound stubs.items fresh r.old r.opening.items) }
         ensures back { IfErr result (λ e. (e.fresh ≡ fresh) × GivesBack fresh.id stubs.items e.stubs.items) };
 
     /// Lets each tenant take so many bytes from now on (`Tenant::limit_memory`).

@@ -3,6 +3,7 @@ use Rattle.sb_tenant.specs.Lending.{HoldRules}
 use Rattle.sb_tenant.specs.Tenant.{Tenant, state}
 use Rattle.sb_tenant.specs.Volumes.{following}
 use Rattle.sb_cell.specs.Tenants.{tenant_at}
+use Rattle.sb_cell.proofs.Bounds.{same-bound}
 use Rattle.sb_cell.proofs.Renewing.{held, made_next}
 use Rattle.sb_cell.proofs.cell.Cell.make_next.Goals as goal
 
@@ -24,6 +25,6 @@ returns-clause-ok c =
     (ap (λ (t : Tenant). t.bound) kept ∙ ap (λ (t : Tenant). t.bound) follows)
     (ap (λ (t : Tenant). t.trail) kept ∙ ap (λ (t : Tenant). t.trail) follows)
     (ap (λ (t : Tenant). t.volume) kept ∙ ap (λ (t : Tenant). t.volume) follows)
-    (sym c.bound.ensures ∙ c.if-bound.false ∙ c.bound-2.ensures) c.trail-trail.ensures.legal (c.is_any_open-else-is_any_open.ensures.closed c.if-is_any_open-2.false)
+    (sym c.bound.ensures ∙ same-bound c.bound.result c.bound-2.result (sym c.ne.ensures ∙ c.if-ne.false) ∙ c.bound-2.ensures) c.trail-trail.ensures.legal (c.is_any_open-else-is_any_open.ensures.closed c.if-is_any_open-2.false)
     (c.settle.ensures.in_step v.records v.clock v.index
     (subst (λ (t : Tenant). HoldRules t.id (state t).catalog.rules v.records v.index) (sym follows) (held v f o before own number c.log-log.ensures.transactions c.log-log.ensures.in_step shut alike)))
