@@ -2,6 +2,7 @@
 use Rattle.std.proofs.Common.{◌≡◌, sym, subst, refl, inl, inr, ℕ, true, List, Option, Some, None}
 use Rattle.std.specs.Prelude.{IfSome}
 use Rattle.std.specs.Io.KnownBytes.{Appends}
+use Rattle.sb_tenant.specs.declared.bound.Bound.{Bound}
 use Rattle.sb_cell.specs.Tenants.{Cell, IsNew, tenant_at}
 use Rattle.sb_dump.specs.Dumps.{Dumps, is_busy}
 use Rattle.sb_dump.specs.declared.dumps.DumpError.{DumpError}
@@ -20,20 +21,20 @@ undumped cell t own NotAlike found busy = refl
 undumped cell t own NoMemory found busy = refl
 
 -- the cell that the input leaves
-abbrev pub Leaves : ℕ → ℕ → Cell → List ℕ → Type 0
+abbrev pub Leaves : ℕ → Bound → Cell → List ℕ → Type 0
 Leaves tenants bound cell input = (leaves : LeavesTenants tenants bound input) × (leaves.cell ≡ cell)
 
-pub leaves : (tenants bound : ℕ) (fresh cell : Cell) (held holds input : Option (List ℕ)) → IsNew 0 1 tenants bound fresh
+pub leaves : (tenants : ℕ) (bound : Bound) (fresh cell : Cell) (held holds input : Option (List ℕ)) → IsNew 0 1 tenants bound fresh
     → IfSome input (λ bytes. (text : List ℕ) × Appends held holds text × AnswersInput fresh bytes text cell) → IfSome input (Leaves tenants bound cell)
 leaves tenants bound fresh cell held holds None new answers = tt
 leaves tenants bound fresh cell held holds (Some bytes) new answers =
     (record { fresh = fresh; is_new = new; told = answers.0; cell = cell; answered = answers.2 }, refl)
 
-pub stream_failed : (tenants bound t : ℕ) (input : Option (List ℕ)) (e : StreamError) → IfSome input (λ bytes. RefusesDump tenants bound t bytes (Stream e))
+pub stream_failed : (tenants : ℕ) (bound : Bound) (t : ℕ) (input : Option (List ℕ)) (e : StreamError) → IfSome input (λ bytes. RefusesDump tenants bound t bytes (Stream e))
 stream_failed tenants bound t None e = tt
 stream_failed tenants bound t (Some bytes) e = inl (e, refl)
 
-module _ (tenants bound t : ℕ) (cell : Cell) where
+module _ (tenants : ℕ) (bound : Bound) (t : ℕ) (cell : Cell) where
   pub refuses : (input : Option (List ℕ)) (why : BackupError) → IfSome input (Leaves tenants bound cell) → IsUndumped cell t why
       → IfSome input (λ bytes. RefusesDump tenants bound t bytes why)
   refuses None why left un = tt

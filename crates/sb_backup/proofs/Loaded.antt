@@ -4,6 +4,7 @@ use Rattle.std.proofs.lemmas.Bool.{cases_lt, ne_eqb}
 use Rattle.std.proofs.Math.Nat.{eq-or-lt_of_le}
 use Rattle.std.specs.Prelude.{IfSome, IsFalse}
 use Rattle.std.specs.Io.KnownBytes.{Appends}
+use Rattle.sb_tenant.specs.declared.bound.Bound.{Bound}
 use Rattle.sb_tenant.specs.declared.reply.Answer.{Answer}
 use Rattle.sb_tenant.specs.declared.reply.Entry.{Entry}
 use Rattle.sb_tenant.specs.State.{State, opening}
@@ -20,12 +21,12 @@ use Rattle.sb_backup.specs.LoadedCells.{AreTaken, IsStarted, IsTaken, Sends, Tak
 -- ---- one line
 
 -- what a step of a line leaves, and that its reply is taken
-abbrev Takes : ℕ → ℕ → List Entry → List Entry → List ℕ → Type 0
+abbrev Takes : Bound → ℕ → List Entry → List Entry → List ℕ → Type 0
 Takes bound t before after own =
     let r = step t bound (state_of t bound before) 0 own in (state_of t bound after ≡ r.0) × IsTaken r.1.reply
 
 -- a turn that is taken is a step
-turn_steps : (bound t : ℕ) (before after : List Entry) (own : List ℕ) (a : Answer) → IsTaken a.reply → IsTurn bound t before (0, own) (Ok a) after
+turn_steps : (bound : Bound) (t : ℕ) (before after : List Entry) (own : List ℕ) (a : Answer) → IsTaken a.reply → IsTurn bound t before (0, own) (Ok a) after
     → Takes bound t before after own
 turn_steps bound t before after own a taken (inl (longer, number, (is_one, inl (other, stepped)))) =
     (sym (ap (λ r. r.0) stepped), subst (λ (r : State × Answer). IsTaken r.1.reply) (sym stepped) taken)
@@ -57,12 +58,12 @@ where_ok (Err e) shows holds = tt
 
 -- ---- lines one after another
 
-after_both : (t bound : ℕ) (st : State) (one two : List (List ℕ)) →
+after_both : (t : ℕ) (bound : Bound) (st : State) (one two : List (List ℕ)) →
     state_after t bound st (as_session 0 (one ++ two)) ≡ state_after t bound (state_after t bound st (as_session 0 one)) (as_session 0 two)
 after_both t bound st [] two = refl
 after_both t bound st (own ∷ one) two = after_both t bound (step t bound st 0 own).0 one two
 
-taken_both : (t bound : ℕ) (st : State) (one two : List (List ℕ)) → AreTaken t bound st one
+taken_both : (t : ℕ) (bound : Bound) (st : State) (one two : List (List ℕ)) → AreTaken t bound st one
     → AreTaken t bound (state_after t bound st (as_session 0 one)) two → AreTaken t bound st (one ++ two)
 taken_both t bound st [] two first second = second
 taken_both t bound st (own ∷ one) two first second = (first.0, taken_both t bound (step t bound st 0 own).0 one two first.1 second)
@@ -71,7 +72,7 @@ pub sends_both : (old mid new : Cell) (t : ℕ) (one two : List (List ℕ)) → 
 sends_both old mid new t one two first second = record {
   sent = second.sent ∙ (λ i. state_after t (first.same.2 i) (first.sent i) (as_session 0 two)) ∙ sym (after_both t old.bound (states old t) one two);
   taken = taken_both t old.bound (states old t) one two first.taken
-      (subst (λ (s : State). AreTaken t old.bound s two) first.sent (subst (λ (b : ℕ). AreTaken t b (states mid t) two) first.same.2 second.taken));
+      (subst (λ (s : State). AreTaken t old.bound s two) first.sent (subst (λ (b : Bound). AreTaken t b (states mid t) two) first.same.2 second.taken));
   others = λ u other. second.others u other ∙ first.others u other;
   same = (second.same.0 ∙ first.same.0, second.same.1 ∙ first.same.1, second.same.2 ∙ first.same.2, second.same.3 ∙ first.same.3);
 }
@@ -88,12 +89,12 @@ each_sent t (own ∷ more) old new (mid, taken, behind) =
 -- ---- all tenants
 
 -- the tenants below a number are made, and the others are as they were
-pub record LoadedTo (files : ℕ → Option (Option (List ℕ))) (bound k : ℕ) (fresh cell : Cell) : Type 0 where
+pub record LoadedTo (files : ℕ → Option (Option (List ℕ))) (bound : Bound) (k : ℕ) (fresh cell : Cell) : Type 0 where
   pub same : IsSame fresh cell
   pub made : (t : ℕ) → t < k → IsScriptedBy t bound (files t) (states cell t)
   pub left : (t : ℕ) → k ≤ t → states cell t ≡ opening
 
-pub none_loaded : (files : ℕ → Option (Option (List ℕ))) (tenants bound : ℕ) (fresh : Cell) → IsNew 0 1 tenants bound fresh → LoadedTo files bound 0 fresh fresh
+pub none_loaded : (files : ℕ → Option (Option (List ℕ))) (tenants : ℕ) (bound : Bound) (fresh : Cell) → IsNew 0 1 tenants bound fresh → LoadedTo files bound 0 fresh fresh
 none_loaded files tenants bound fresh new = record {
   same = (refl, refl, refl, refl);
   made = λ t below. absurd (omega arith);
@@ -103,7 +104,7 @@ none_loaded files tenants bound fresh new = record {
 apart : (u k : ℕ) → (u ≡ k → ⊥) → IsFalse (u == k)
 apart u k other = ne_eqb u k other
 
-whole : (known : Option (Option (List ℕ))) (bound k : ℕ) (old new : Cell) → old.bound ≡ bound → states old k ≡ opening → IsStarted k known old new
+whole : (known : Option (Option (List ℕ))) (bound : Bound) (k : ℕ) (old new : Cell) → old.bound ≡ bound → states old k ≡ opening → IsStarted k known old new
     → IsScriptedBy k bound known (states new k)
 whole known bound k old new bound_is opens (inl (same, lacks)) = inl (ap (λ (c : Cell). states c k) same ∙ opens, lacks)
 whole known bound k old new bound_is opens (inr (lines, has, sends)) =
@@ -113,7 +114,7 @@ whole known bound k old new bound_is opens (inr (lines, has, sends)) =
       (
         sends.sent ∙ (λ i. state_after k (bound_is i) (opens i) (as_session 0 (whole_session lines))),
         subst (λ (s : State). AreTaken k bound s (whole_session lines)) opens
-            (subst (λ (b : ℕ). AreTaken k b (states old k) (whole_session lines)) bound_is sends.taken),
+            (subst (λ (b : Bound). AreTaken k b (states old k) (whole_session lines)) bound_is sends.taken),
       ),
     )
 
@@ -125,7 +126,7 @@ stays_same : (known : Option (Option (List ℕ))) (k : ℕ) (old new : Cell) →
 stays_same known k old new (inl (same, lacks)) = subst (IsSame old) (sym same) (refl, refl, refl, refl)
 stays_same known k old new (inr (lines, has, sends)) = sends.same
 
-pub one_loaded : (files : ℕ → Option (Option (List ℕ))) (bound k : ℕ) (fresh cell new : Cell) → fresh.bound ≡ bound → LoadedTo files bound k fresh cell
+pub one_loaded : (files : ℕ → Option (Option (List ℕ))) (bound : Bound) (k : ℕ) (fresh cell new : Cell) → fresh.bound ≡ bound → LoadedTo files bound k fresh cell
     → IsStarted k (files k) cell new → LoadedTo files bound (k + 1) fresh new
 one_loaded files bound k fresh cell new bound_is so_far started = record {
   same = let next = stays_same (files k) k cell new started in
@@ -142,11 +143,11 @@ one_loaded files bound k fresh cell new bound_is so_far started = record {
         subst (IsScriptedBy t bound (files t)) (sym (others_stay (files k) k cell new started t (λ is. let e : t ≡ k = is in absurd (omega arith)))) (so_far.made t below)
 
 -- whatever is known of its file
-scripted_at_all : (t bound : ℕ) (known : Option (Option (List ℕ))) (state : State) → IsScriptedBy t bound known state → IsScripted t bound state
+scripted_at_all : (t : ℕ) (bound : Bound) (known : Option (Option (List ℕ))) (state : State) → IsScriptedBy t bound known state → IsScripted t bound state
 scripted_at_all t bound known state (inl (is, lacks)) = inl is
 scripted_at_all t bound known state (inr (lines, has, played)) = inr (lines, played)
 
-pub all_loaded : (files : ℕ → Option (Option (List ℕ))) (tenants bound : ℕ) (fresh cell : Cell) → IsNew 0 1 tenants bound fresh
+pub all_loaded : (files : ℕ → Option (Option (List ℕ))) (tenants : ℕ) (bound : Bound) (fresh cell : Cell) → IsNew 0 1 tenants bound fresh
     → LoadedTo files bound tenants fresh cell → IsLoadedFrom files tenants bound cell
 all_loaded files tenants bound fresh cell new loaded = record {
   loaded = record {
@@ -166,7 +167,7 @@ all_loaded files tenants bound fresh cell new loaded = record {
 
 -- ---- the input behind
 
-pub answers_loaded : (tenants bound : ℕ) (cell after : Cell) (input held holds : Option (List ℕ)) → IsLoaded tenants bound cell
+pub answers_loaded : (tenants : ℕ) (bound : Bound) (cell after : Cell) (input held holds : Option (List ℕ)) → IsLoaded tenants bound cell
     → IfSome input (λ bytes. (text : List ℕ) × Appends held holds text × AnswersInput cell bytes text after)
     → IfSome input (λ bytes. (text : List ℕ) × Appends held holds text × AnswersLoaded tenants bound bytes text)
 answers_loaded tenants bound cell after None held holds loaded answers = tt

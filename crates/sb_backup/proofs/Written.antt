@@ -2,6 +2,7 @@
 use Rattle.std.proofs.Common.{◌≡◌, ◌≢◌, ◌∙◌, ◌<◌, ◌+◌, ◌⊎◌, ℕ, List, Option, Some, None, inl, inr, refl, sym, subst, arith}
 use Rattle.std.proofs.Math.Nat.{eq-or-lt_of_le}
 use Rattle.std.specs.Prelude.{IfSome}
+use Rattle.sb_tenant.specs.declared.bound.Bound.{Bound}
 use Rattle.sb_cell.specs.Tenants.{Cell}
 use Rattle.sb_backup.specs.Dumps.{FirstUnwritten, HasScript, HaveScripts, RefusesDumps}
 use Rattle.sb_backup.specs.declared.error.BackupError.{BackupError}
@@ -9,14 +10,14 @@ use Rattle.sb_backup.specs.declared.error.BackupError.TheVariants.{Stream}
 use Rattle.sb_wire.specs.declared.fault.StreamError.{StreamError}
 use Rattle.sb_backup.proofs.Dumped.{Leaves}
 
-pub one_more : (bound k : ℕ) (cell : Cell) → ((t : ℕ) → t < k → HasScript bound cell t) → HasScript bound cell k → (t : ℕ) → t < k + 1 → HasScript bound cell t
+pub one_more : (bound : Bound) (k : ℕ) (cell : Cell) → ((t : ℕ) → t < k → HasScript bound cell t) → HasScript bound cell k → (t : ℕ) → t < k + 1 → HasScript bound cell t
 one_more bound k cell so_far here t below = by (eq-or-lt_of_le (omega arith))
   where
     by : (t ≡ k) ⊎ (t < k) → HasScript bound cell t
     by (inl is) = subst (HasScript bound cell) (sym is) here
     by (inr before) = so_far t before
 
-module _ (tenants bound : ℕ) (cell : Cell) where
+module _ (tenants : ℕ) (bound : Bound) (cell : Cell) where
   pub all_written : (input : Option (List ℕ)) → IfSome input (Leaves tenants bound cell) → ((t : ℕ) → t < tenants → HasScript bound cell t)
       → IfSome input (HaveScripts tenants bound)
   all_written None left each = tt
@@ -28,7 +29,7 @@ module _ (tenants bound : ℕ) (cell : Cell) where
   some_unwritten None why left un = tt
   some_unwritten (Some bytes) why left un = inr (inr (left.0, subst (λ (c : Cell). FirstUnwritten tenants bound c why) (sym left.1) un))
 
-pub stream_fault : (tenants bound : ℕ) (input : Option (List ℕ)) (e : StreamError) → IfSome input (λ bytes. RefusesDumps tenants bound bytes (Stream e))
+pub stream_fault : (tenants : ℕ) (bound : Bound) (input : Option (List ℕ)) (e : StreamError) → IfSome input (λ bytes. RefusesDumps tenants bound bytes (Stream e))
 stream_fault tenants bound None e = tt
 stream_fault tenants bound (Some bytes) e = inr (inl (e, refl))
 

@@ -1,5 +1,6 @@
 -- Promise: what a dump writes of an input.
 use Rattle.std.specs.Prelude.{◌≡◌, ◌⊎◌, ◌<◌, ℕ, true, List, [], ◌∷◌, ◌++◌, Some, None}
+use Rattle.sb_tenant.specs.declared.bound.Bound.{Bound}
 use Rattle.sb_cell.specs.Tenants.{IsNew, Cell as ItsCell, tenant_at, trails}
 use Rattle.sb_dump.specs.Dumps.{Dumps, is_busy}
 use Rattle.sb_dump.specs.declared.dumps.DumpError.{DumpError}
@@ -17,7 +18,7 @@ script_text [] = []
 script_text (line ∷ lines) = line ++ 10 ∷ script_text lines
 
 -- the input is answered on fresh tenants, and the replies are thrown away
-pub record LeavesTenants (tenants bound : ℕ) (input : List ℕ) : Type 0 where
+pub record LeavesTenants (tenants : ℕ) (bound : Bound) (input : List ℕ) : Type 0 where
   pub fresh : ItsCell
   pub is_new : IsNew 0 1 tenants bound fresh
   pub told : List ℕ
@@ -25,7 +26,7 @@ pub record LeavesTenants (tenants bound : ℕ) (input : List ℕ) : Type 0 where
   pub answered : AnswersInput fresh input told cell
 
 -- the text is a script of this tenant, as the input leaves it
-pub record DumpsInput (tenants bound tenant : ℕ) (input text : List ℕ) : Type 0 where
+pub record DumpsInput (tenants : ℕ) (bound : Bound) (tenant : ℕ) (input text : List ℕ) : Type 0 where
   pub leaves : LeavesTenants tenants bound input
   pub own : Tenant
   pub own_is : tenant_at leaves.cell tenant ≡ Some own
@@ -52,19 +53,19 @@ abbrev pub IsOfStream : BackupError → Type 0
 IsOfStream why = (e : StreamError) × (why ≡ Stream e)
 
 -- a stream failed, or so it is as the input leaves the tenant
-abbrev pub RefusesDump : ℕ → ℕ → ℕ → List ℕ → BackupError → Type 0
+abbrev pub RefusesDump : ℕ → Bound → ℕ → List ℕ → BackupError → Type 0
 RefusesDump tenants bound tenant input why =
     IsOfStream why ⊎ ((leaves : LeavesTenants tenants bound input) × IsUndumped leaves.cell tenant why)
 
 -- ---- all tenants
 
 -- a tenant was never opened, or it has a script
-abbrev pub HasScript : ℕ → ItsCell → ℕ → Type 0
+abbrev pub HasScript : Bound → ItsCell → ℕ → Type 0
 HasScript bound cell t =
     (trails cell t ≡ []) ⊎ ((own : Tenant) × (tenant_at cell t ≡ Some own) × (script : List (List ℕ)) × Dumps bound own script)
 
 -- so it is of each, as the input leaves them
-pub record HaveScripts (tenants bound : ℕ) (input : List ℕ) : Type 0 where
+pub record HaveScripts (tenants : ℕ) (bound : Bound) (input : List ℕ) : Type 0 where
   pub leaves : LeavesTenants tenants bound input
   pub each : (t : ℕ) → t < tenants → HasScript bound leaves.cell t
 
@@ -73,11 +74,11 @@ abbrev pub IsUnwritten : ItsCell → ℕ → BackupError → Type 0
 IsUnwritten cell tenant why = (why ≡ CannotWrite tenant) ⊎ IsUndumped cell tenant why
 
 -- so it is of the first one that isn't written: each before it was never opened, or has a script
-abbrev pub FirstUnwritten : ℕ → ℕ → ItsCell → BackupError → Type 0
+abbrev pub FirstUnwritten : ℕ → Bound → ItsCell → BackupError → Type 0
 FirstUnwritten tenants bound cell why =
     (t : ℕ) × (t < tenants) × ((u : ℕ) → u < t → HasScript bound cell u) × IsUnwritten cell t why
 
 -- the folder isn't there, a stream failed, or so it is as the input leaves the tenants
-abbrev pub RefusesDumps : ℕ → ℕ → List ℕ → BackupError → Type 0
+abbrev pub RefusesDumps : ℕ → Bound → List ℕ → BackupError → Type 0
 RefusesDumps tenants bound input why =
     (why ≡ NoFolder) ⊎ (IsOfStream why ⊎ ((leaves : LeavesTenants tenants bound input) × FirstUnwritten tenants bound leaves.cell why))

@@ -1,3 +1,4 @@
+pub mod Bounds
 pub mod Outputs
 pub mod Dumps
 pub mod Loads

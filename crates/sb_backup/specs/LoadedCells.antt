@@ -1,5 +1,6 @@
 -- Promise: how the lines of a file are played.
 use Rattle.std.specs.Prelude.{◌≡◌, ◌⊎◌, ◌==◌, ℕ, Bool, true, false, List, [], ◌∷◌, map, Option, None, Some, option_map, IfSome, Result, Ok, Err, IsFalse, ⊤}
+use Rattle.sb_tenant.specs.declared.bound.Bound.{Bound}
 use Rattle.sb_cell.specs.declared.StepError.{StepError}
 use Rattle.sb_cell.specs.Tenants.{AnswersEvent, Cell as ItsCell, IsSame, states, tenant_at}
 use Rattle.sb_dump.specs.Dumps.{as_session, whole_session}
@@ -45,7 +46,7 @@ IsUnsettled t cell why =
     ⊎ ((own : ItsTenant) × (tenant_at cell t ≡ Some own) × MayEnd (session_at (state own) 0) (Some why))
 
 -- lines of a tenant's first session, one after another, each of which has such a reply
-abbrev pub AreTaken : ℕ → ℕ → State → List (List ℕ) → Type 0
+abbrev pub AreTaken : ℕ → Bound → State → List (List ℕ) → Type 0
 AreTaken t bound state [] = ⊤
 AreTaken t bound state (own ∷ more) = let r = step t bound state 0 own in IsTaken r.1.reply × AreTaken t bound r.0 more
 

@@ -2,6 +2,7 @@
 ghost use Rattle.std.specs.Prelude.{◌≡◌, ◌≢◌, ◌⊎◌, ◌<◌, ℕ, None, Some, IfErr, IfSome, OnOk};
 ghost use Rattle.sb_backup.specs.Dumps.{FirstUnwritten, HasScript, HaveScripts, IsUnwritten, RefusesDumps};
 ghost use Rattle.sb_words.specs.Within.{AreRun};
+ghost use Rattle.sb_backup.specs.Bounds.{bound_of};
 
 use crate::dump::{answered, undumped};
 use crate::error::BackupError;
@@ -9,6 +10,7 @@ use crate::folder::found_folder;
 use crate::script_files::ScriptFiles;
 use sb_cell::Cell;
 use sb_dump::dump;
+use sb_tenant::Bound;
 use sb_wire::Source;
 use sb_words::{Log, Run};
 use std::alloc::Global;
@@ -26,9 +28,9 @@ pub fn dump_all<T: Files<File = File>, O: Log, R: Source>(
     reader: &mut R,
 ) -> Result<(), BackupError>
     requires { AreRun asked }
-    ensures ok { OnOk result (IfSome (R.remaining reader.old) (HaveScripts asked.tenants asked.bound)) }
+    ensures ok { OnOk result (IfSome (R.remaining reader.old) (HaveScripts asked.tenants (bound_of asked))) }
     ensures err { IfErr result (λ why. IfSome (R.remaining reader.old)
-        (λ input. RefusesDumps asked.tenants asked.bound input why)) }
+        (λ input. RefusesDumps asked.tenants (bound_of asked) input why)) }
 {
     let Some(folder) = found_folder(rt, into, log) else {
         return Err(BackupError::NoFolder);
@@ -43,7 +45,10 @@ pub fn dump_all<T: Files<File = File>, O: Log, R: Source>(
     let files = ScriptFiles {
         rt,
         alloc,
-        bound: asked.bound,
+        bound: Bound {
+            considerations: asked.bound,
+            work: asked.work,
+        },
         folder,
         log,
     };

@@ -8,6 +8,7 @@ ghost use Rattle.sb_tenant.specs.State.{session_at};
 ghost use Rattle.sb_tenant.specs.Tenant.{state};
 ghost use Rattle.sb_wire.specs.declared.fault.StreamError.TheVariants as stream;
 ghost use Rattle.sb_words.specs.Within.{AreRun};
+ghost use Rattle.sb_backup.specs.Bounds.{bound_of};
 
 use crate::error::BackupError;
 use crate::folder::found_folder;
@@ -15,7 +16,7 @@ use crate::line_player::{Sender, play_lines};
 use crate::script_source::{FolderScripts, ScriptSource, Unopened};
 use sb_cell::{Cell, ample_buckets};
 use sb_host::SessionId;
-use sb_tenant::{Reply, Tenant};
+use sb_tenant::{Bound, Reply, Tenant};
 use sb_wire::{StreamError, write_bare_reply};
 use sb_words::{Log, Run};
 use std::alloc::Global;
@@ -72,14 +73,18 @@ pub fn loaded_cell<T: Files, O: Log>(
     load: Option<&str>,
 ) -> Result<Cell, BackupError>
     requires { AreRun run }
-    ensures ok { IfOk result (IsLoaded run.tenants run.bound) }
+    ensures ok { IfOk result (IsLoaded run.tenants (bound_of run)) }
     ensures err { IfErr result (IsUnloaded run.tenants) }
 {
     let Some(folder) = found_folder(rt, load, log) else {
         return Err(BackupError::NoFolder);
     };
     let buckets = ample_buckets(run.tenants);
-    let Ok(mut cell) = Cell::with_buckets(alloc, 0, 1, run.tenants, run.bound, buckets) else {
+    let bound = Bound {
+        considerations: run.bound,
+        work: run.work,
+    };
+    let Ok(mut cell) = Cell::with_buckets(alloc, 0, 1, run.tenants, bound, buckets) else {
         return Err(BackupError::Stream(StreamError::NoMemory));
     };
     let scripts = FolderScripts { rt, folder, log };
@@ -96,8 +101,8 @@ fn load_each<F: Read + Drop, S: ScriptSource<F>>(
     run: Run,
     scripts: &S,
 ) -> Result<(), BackupError>
-    requires { IsNew 0 1 run.tenants run.bound cell.old }
-    ensures ok { OnOk result (IsLoadedFrom (S.files scripts.now) run.tenants run.bound cell.new) }
+    requires { IsNew 0 1 run.tenants (bound_of run) cell.old }
+    ensures ok { OnOk result (IsLoadedFrom (S.files scripts.now) run.tenants (bound_of run) cell.new) }
     ensures err { IfErr result (IsUnloaded run.tenants) }
 {
     for tenant in 0..run.tenants {

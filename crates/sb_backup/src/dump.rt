@@ -8,10 +8,12 @@ ghost use Rattle.sb_tenant.specs.Tenant.{Tenant as ItsTenant};
 ghost use Rattle.sb_backup.specs.Dumps.{DumpsInput, IsUndumped, LeavesTenants, RefusesDump, script_text, undumped_as};
 ghost use Rattle.sb_backup.specs.Outputs.{WritesOf};
 ghost use Rattle.sb_words.specs.Within.{AreDump, AreRun};
+ghost use Rattle.sb_backup.specs.Bounds.{bound_of};
 
 use crate::error::BackupError;
 use sb_cell::{Cell, ample_buckets};
 use sb_dump::{DumpError, Script, dump};
+use sb_tenant::Bound;
 use sb_wire::{Sink, Source, StreamError, Summary, run_stream, write_and_flush};
 use sb_words::{Dumping, Run};
 use std::alloc::{AllocError, Global};
@@ -62,9 +64,9 @@ pub fn dump_tenant<R: Source, W: Sink>(
 ) -> Result<(), BackupError>
     requires { AreDump asked }
     ensures ok { OnOk result (WritesOf R.remaining W.contents reader.old writer.old writer.new
-        (DumpsInput asked.run.tenants asked.run.bound asked.tenant)) }
+        (DumpsInput asked.run.tenants (bound_of asked.run) asked.tenant)) }
     ensures err { IfErr result (λ why. IfSome (R.remaining reader.old)
-        (λ input. RefusesDump asked.run.tenants asked.run.bound asked.tenant input why)) }
+        (λ input. RefusesDump asked.run.tenants (bound_of asked.run) asked.tenant input why)) }
 {
     let cell = match answered(alloc, asked.run, reader) {
         Ok(cell) => cell,
@@ -88,10 +90,14 @@ pub(crate) fn answered<R: Source>(
 ) -> Result<Cell, StreamError>
     requires { AreRun run }
     ensures { IfOk result (λ cell. IfSome (R.remaining reader.old) (λ input.
-        (leaves : LeavesTenants run.tenants run.bound input) × (leaves.cell ≡ cell))) }
+        (leaves : LeavesTenants run.tenants (bound_of run) input) × (leaves.cell ≡ cell))) }
 {
     let buckets = ample_buckets(run.tenants);
-    let Ok(mut cell) = Cell::with_buckets(alloc, 0, 1, run.tenants, run.bound, buckets) else {
+    let bound = Bound {
+        considerations: run.bound,
+        work: run.work,
+    };
+    let Ok(mut cell) = Cell::with_buckets(alloc, 0, 1, run.tenants, bound, buckets) else {
         return Err(StreamError::NoMemory);
     };
     let mut summary = Summary::new();
@@ -105,7 +111,7 @@ pub(crate) fn answered<R: Source>(
 fn script_of(alloc: Global, cell: &Cell, asked: Dumping) -> Result<Script, BackupError>
     requires { AreDump asked }
     ensures ok { IfOk result (λ script. (own : ItsTenant) × (tenant_at cell.now asked.tenant ≡ Some own)
-        × Dumps asked.run.bound own script) }
+        × Dumps (bound_of asked.run) own script) }
     ensures err { IfErr result (IsUndumped cell.now asked.tenant) }
 {
     let tenant = match cell.tenant(asked.tenant) {
@@ -116,7 +122,11 @@ fn script_of(alloc: Global, cell: &Cell, asked: Dumping) -> Result<Script, Backu
             });
         }
     };
-    match dump(alloc, tenant, asked.run.bound) {
+    let bound = Bound {
+        considerations: asked.run.bound,
+        work: asked.run.work,
+    };
+    match dump(alloc, tenant, bound) {
         Ok(script) => Ok(script),
         Err(error) => Err(undumped(u64::from(asked.tenant), error)),
     }

@@ -4,7 +4,7 @@ ghost use Rattle.sb_backup.specs.HostDumps.{IsNotedOf, IsNotedOfSome};
 
 use sb_dump::{DumpError, Script, dump};
 use sb_host::{Lending, Reading};
-use sb_tenant::Tenant;
+use sb_tenant::{Bound, Tenant};
 use std::alloc::Global;
 use std::sync::Wait;
 
@@ -23,17 +23,17 @@ pub enum NotedScript {
 #[derive(Drop)]
 pub struct ScriptNotes {
     alloc: Global,
-    /// The most rules that are considered at one assertion point.
-    pub bound: u32,
+    /// The bound of each step.
+    pub bound: Bound,
     /// What was noted.
     pub noted: NotedScript,
-    ghost few: { bound ≤ 1000 },
+    ghost few: { bound.considerations ≤ 1000 },
 }
 
 impl ScriptNotes {
     /// Nothing is noted yet.
-    pub fn new(alloc: Global, bound: u32) -> ScriptNotes
-        requires { bound ≤ 1000 }
+    pub fn new(alloc: Global, bound: Bound) -> ScriptNotes
+        requires { bound.considerations ≤ 1000 }
         ensures { (result.bound ≡ bound) × (result.noted ≡ NotedScript.Unused) }
     {
         ScriptNotes {
@@ -58,8 +58,8 @@ impl Reading for ScriptNotes {
 }
 
 /// What a tenant has that was opened.
-fn script_of(alloc: Global, tenant: &Tenant, bound: u32) -> NotedScript
-    requires { bound ≤ 1000 }
+fn script_of(alloc: Global, tenant: &Tenant, bound: Bound) -> NotedScript
+    requires { bound.considerations ≤ 1000 }
     ensures { IsNotedOf bound tenant.now result }
 {
     match dump(alloc, tenant, bound) {

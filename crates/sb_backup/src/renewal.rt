@@ -5,7 +5,7 @@ ghost use Rattle.sb_host.specs.Renewal.{GivesBack};
 
 use sb_dump::{DumpError, Script, draft_of, made_by};
 use sb_host::{NotRenewed, Reading, RenewError, Renewal, Renewing, Stub, TenantId};
-use sb_tenant::Tenant;
+use sb_tenant::{Bound, Tenant};
 use std::alloc::Global;
 use std::sync::Wait;
 
@@ -75,10 +75,10 @@ pub fn renew_tenant<T: Wait, H: Renewing>(
     alloc: Global,
     host: H,
     tenant: u32,
-    bound: u32,
+    bound: Bound,
     stubs: Vec<Stub>,
 ) -> Result<Vec<Stub>, Unrenewed>
-    requires { bound ≤ 1000 }
+    requires { bound.considerations ≤ 1000 }
     ensures ok { IfOk result (λ opening. Renewed tenant stubs.items opening.items) }
     ensures back { IfErr result (λ e. GivesBack tenant stubs.items e.stubs.items) }
 {
@@ -111,9 +111,9 @@ fn copy_of<T: Wait, H: Renewing>(
     alloc: Global,
     host: H,
     tenant: u32,
-    bound: u32,
+    bound: Bound,
 ) -> Result<Tenant, RenewalFault>
-    requires { bound ≤ 1000 }
+    requires { bound.considerations ≤ 1000 }
     ensures { IfOk result (λ own. own.id ≡ tenant) }
 {
     let mut notes = DraftNotes { alloc, draft: None };

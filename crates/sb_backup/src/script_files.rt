@@ -7,6 +7,7 @@ use crate::dump::text_of;
 use crate::error::BackupError;
 use crate::folder::Folder;
 use sb_dump::Script;
+use sb_tenant::Bound;
 use sb_wire::StreamError;
 use sb_words::{Log, Severity};
 use std::alloc::Global;
@@ -18,10 +19,10 @@ pub struct ScriptFiles<'r, 'j, T, O> {
     /// The system that has them.
     pub rt: &'r T,
     pub alloc: Global,
-    pub bound: u32,
+    pub bound: Bound,
     pub folder: Folder<'r>,
     pub log: &'j O,
-    ghost few: { bound ≤ 1000 },
+    ghost few: { bound.considerations ≤ 1000 },
 }
 
 impl<'r, 'j, T: Files, O: Log> ScriptFiles<'r, 'j, T, O> {

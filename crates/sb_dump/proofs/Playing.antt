@@ -1,6 +1,7 @@
 -- Lines that are sent to the one tenant of a cell, each a step of the definition.
 use Rattle.std.proofs.Common.{◌≡◌, ℕ, ◌+◌, ◌%◌, ◌/◌, Bool, true, ◌&&◌, ◌==◌, nat_lt, List, [], ◌∷◌, ◌++◌, Result, Ok, Err, OnOk, inl, inr, refl, sym, ap, ◌∙◌, subst}
 use Rattle.std.proofs.lemmas.Bool.{true≢false}
+use Rattle.sb_tenant.specs.declared.bound.Bound.{Bound}
 use Rattle.sb_tenant.specs.declared.reply.Answer.{Answer}
 use Rattle.sb_tenant.specs.declared.reply.Entry.{Entry}
 use Rattle.sb_tenant.specs.State.{State, opening}
@@ -15,7 +16,7 @@ use Rattle.sb_dump.specs.Playing.{AreSent, IsDone, is_done}
 -- ---- one line
 
 -- a turn that is done is a step
-turn_steps : (bound t : ℕ) (before after : List Entry) (line : List ℕ) (a : Answer) → is_done a.reply ≡ true → IsTurn bound t before (0, line) (Ok a) after →
+turn_steps : (bound : Bound) (t : ℕ) (before after : List Entry) (line : List ℕ) (a : Answer) → is_done a.reply ≡ true → IsTurn bound t before (0, line) (Ok a) after →
     state_of t bound after ≡ (step t bound (state_of t bound before) 0 line).0
 turn_steps bound t before after line a done (inl (longer, number, (is_one, inl (other, stepped)))) = sym (ap (λ r. r.0) stepped)
 turn_steps bound t before after line a done (inl (longer, number, (is_one, inr (told, aborted, may)))) = absurd (true≢false (sym done ∙ ap is_done told))
@@ -40,7 +41,7 @@ done_sent old new id number line given checked hosted is answers =
 
 -- ---- lines one after another
 
-after_both : (id bound : ℕ) (st : State) (one two : List (List ℕ)) →
+after_both : (id : ℕ) (bound : Bound) (st : State) (one two : List (List ℕ)) →
     state_after id bound st (as_session 0 (one ++ two)) ≡ state_after id bound (state_after id bound st (as_session 0 one)) (as_session 0 two)
 after_both id bound st [] two = refl
 after_both id bound st (line ∷ one) two = after_both id bound (step id bound st 0 line).0 one two
@@ -58,8 +59,8 @@ still_hosts old new t same = λ i. (t % same.1 i == same.0 i) && nat_lt (t / sam
 
 -- ---- a whole session
 
-pub new_opens : (id bound : ℕ) (cell : Cell) → IsNew id 256 (id + 1) bound cell → states cell id ≡ opening
+pub new_opens : (id : ℕ) (bound : Bound) (cell : Cell) → IsNew id 256 (id + 1) bound cell → states cell id ≡ opening
 new_opens id bound cell is_new = ap (state_of id cell.bound) (is_new.trails id)
 
-pub whole_sent : (new cell : Cell) (id bound : ℕ) (lines : List (List ℕ)) → states new id ≡ opening → new.bound ≡ bound → AreSent id (whole_session lines) new cell → states cell id ≡ played id bound lines
+pub whole_sent : (new cell : Cell) (id : ℕ) (bound : Bound) (lines : List (List ℕ)) → states new id ≡ opening → new.bound ≡ bound → AreSent id (whole_session lines) new cell → states cell id ≡ played id bound lines
 whole_sent new cell id bound lines opens bound_is sent = sent.0 ∙ (λ i. state_after id (bound_is i) (opens i) (as_session 0 (whole_session lines)))

@@ -1,5 +1,6 @@
 -- Machine: lines that are sent to a cell's one tenant.
 use Rattle.std.specs.Prelude.{◌≡◌, ℕ, Bool, true, false, ◌==◌, List, Result, Ok, Err, IsTrue}
+use Rattle.sb_tenant.specs.declared.bound.Bound.{Bound}
 use Rattle.sb_tenant.specs.declared.reply.Answer.{Answer}
 use Rattle.sb_tenant.specs.declared.reply.Reply.{Reply}
 use Rattle.sb_tenant.specs.declared.reply.Reply.TheVariants as told
@@ -9,7 +10,7 @@ use Rattle.sb_cell.specs.Tenants.{Cell, IsSame, hosts, states}
 use Rattle.sb_dump.specs.Dumps.{as_session}
 
 -- the cell has the tenant of that number alone, with that bound
-abbrev pub HostsOnly : ℕ → ℕ → Cell → Type 0
+abbrev pub HostsOnly : ℕ → Bound → Cell → Type 0
 HostsOnly id bound cell = ((t : ℕ) → hosts cell t ≡ (t == id)) × (cell.bound ≡ bound)
 
 -- whether a reply says that the line was done

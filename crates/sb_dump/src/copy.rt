@@ -7,7 +7,7 @@ ghost use Rattle.sb_tenant.specs.Tenant.{state};
 use crate::dumps::{DumpError, write};
 use crate::play::{SendFault, play};
 use crate::script::Script;
-use sb_tenant::{Tenant, is_busy};
+use sb_tenant::{Bound, Tenant, is_busy};
 use sb_value::TenantId;
 use std::alloc::Global;
 
@@ -30,10 +30,10 @@ pub fn draft_of(alloc: Global, tenant: &Tenant) -> Result<Script, DumpError>
 pub fn made_by(
     alloc: Global,
     id: TenantId,
-    bound: u32,
+    bound: Bound,
     script: &Script,
 ) -> Result<Tenant, DumpError>
-    requires { bound ≤ 1000 }
+    requires { bound.considerations ≤ 1000 }
     ensures { IfOk result (λ own. (own.id ≡ id) × (own.bound ≡ bound) × (state own ≡ played id bound script.now)) }
 {
     match play(alloc, id, bound, script.lines()) {

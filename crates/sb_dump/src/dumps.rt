@@ -11,7 +11,7 @@ use crate::play::{SendFault, only_tenant, play};
 use crate::rules::{write_inactive, write_rules};
 use crate::script::Script;
 use crate::tables::write_tables;
-use sb_tenant::{Tenant, are_alike};
+use sb_tenant::{Bound, Tenant, are_alike};
 use std::alloc::{AllocError, Global};
 
 /// Why there is no dump of a tenant.
@@ -27,8 +27,8 @@ pub enum DumpError {
 /// A script that makes an alike tenant of a fresh one: tables with their rows, rules, their order, rulesets. It was
 /// played on a fresh tenant with that bound, and the tenant that it made was compared. Error: Busy where a session has
 /// a transaction, NotAlike, or NoMemory.
-pub fn dump(alloc: Global, tenant: &Tenant, bound: u32) -> Result<Script, DumpError>
-    requires { bound ≤ 1000 }
+pub fn dump(alloc: Global, tenant: &Tenant, bound: Bound) -> Result<Script, DumpError>
+    requires { bound.considerations ≤ 1000 }
     ensures ok { IfOk result (Dumps bound tenant.now) }
     ensures busy { (result ≡ Err Busy) ↔ (is_busy (state tenant.now) ≡ true) }
 {

@@ -7,7 +7,7 @@ ghost use Rattle.sb_tenant.specs.Tenant.{state};
 
 use sb_cell::{Cell, StepError};
 use sb_syntax::COMMAND_LIMIT;
-use sb_tenant::{Answer, END, Line, OPEN, Reply, Tenant};
+use sb_tenant::{Answer, Bound, END, Line, OPEN, Reply, Tenant};
 use sb_value::{Refusal, TenantId};
 use std::alloc::Global;
 
@@ -23,10 +23,10 @@ pub(crate) enum SendFault {
 pub(crate) fn play(
     alloc: Global,
     id: TenantId,
-    bound: u32,
+    bound: Bound,
     lines: &[Line],
 ) -> Result<Cell, SendFault>
-    requires { bound ≤ 1000 }
+    requires { bound.considerations ≤ 1000 }
     ensures sendable { OnOk result (All IsSendable lines.now) }
     ensures played { IfOk result (λ cell. states cell id ≡ played id bound lines.now) }
     ensures alone { IfOk result (HostsOnly id bound) }

@@ -4,6 +4,7 @@ use Rattle.std.specs.Prelude.{⊤}
 use Rattle.std.specs.List.{AllByRecursion}
 use Rattle.std.proofs.lemmas.Bool.{true≢false, false≢true, false_from_ne_true}
 use Rattle.std.proofs.lemmas.List.{map-append}
+use Rattle.sb_tenant.specs.declared.bound.Bound.{Bound}
 use Rattle.sb_value.specs.declared.refusal.Refusal.TheVariants.{NoMemory}
 use Rattle.sb_tenant.specs.declared.reply.Answer.{Answer}
 use Rattle.sb_tenant.specs.declared.reply.Entry.{Entry}
@@ -37,7 +38,7 @@ pair_of r = (r.line, r.answer.reply)
 
 -- ---- the entries of one session
 
-module _ (t bound s : ℕ) where
+module _ (t : ℕ) (bound : Bound) (s : ℕ) where
   -- each pair in turn is the session's next entry
   abbrev AreNext : State → List Pair → Type 0
   AreNext state [] = ⊤
@@ -129,7 +130,7 @@ talks (e ∷ es) old last (mid, called, others) (fine, served) = by (talks es mi
 
 -- ---- what it is told
 
-module _ (bound t s : ℕ) where
+module _ (bound : Bound) (t s : ℕ) where
   -- an entry that isn't an abort is the step
   stepped : (before after : State) (c : List ℕ) (answer : Answer) → (answer.reply ≡ No NoMemory → ⊥) → IsNext t bound before (entry_of s c answer.reply) after
       → ((step t bound before s c).0 ≡ after) × ((step t bound before s c).1.reply ≡ answer.reply)
@@ -208,7 +209,7 @@ module _ (bound t s : ℕ) where
       let open_ = a.opened (λ h. let e = h in cc) in
       a.text_is ∙ opened-alone a.exchanges open_.0 open_.1 served state trail legal others (open_.2 ∙ are) ∙ ap (opened_text bound t s) (sym a.commands_are)
 
-pub tells-as-alone : (tenants bound : ℕ) (input text : List ℕ) (r : Replays tenants bound input text) → TellsAsAlone r
+pub tells-as-alone : (tenants : ℕ) (bound : Bound) (input text : List ℕ) (r : Replays tenants bound input text) → TellsAsAlone r
 tells-as-alone tenants bound input text r t s there one only served =
     let trail = row_at r.trails t in
     attended-alone bound t s (commands_for t s r.asks) (wanted t s r.trails) _ (text_at r.texts t s) (r.attends t s there one) served (state_of t bound trail) trail (r.legal.1 t) refl

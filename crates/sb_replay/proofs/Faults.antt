@@ -2,6 +2,7 @@
 use Rattle.std.proofs.Common.{◌≡◌, ℕ, List, Option, Result, Ok, Err, IfErr, IfSome, OnErr, Vec, inl, inr, sym, subst}
 use Rattle.std.specs.Global.{Global}
 use Rattle.std.specs.Io.KnownBytes.{Consumes, Keeps}
+use Rattle.sb_tenant.specs.declared.bound.Bound.{Bound}
 use Rattle.sb_desk.specs.declared.stub.Stub.{Stub}
 use Rattle.sb_replay.specs.declared.error.ReplayError.{ReplayError}
 use Rattle.sb_replay.specs.declared.error.ReplayError.TheVariants.{ReadFault, WriteFault, BadLine, Attach, Finish, NoMemory}
@@ -35,7 +36,7 @@ unclosed_unplayed tenants (Attach t s) h = absurd h
 unclosed_unplayed tenants (Finish e) h = h
 unclosed_unplayed tenants NoMemory h = h
 
-module _ {R W : Type 0} (fails : R → Type 0) (remaining : R → Option (List ℕ)) (refuses : W → Type 0) (contents : W → Option (List ℕ)) (tenants bound : ℕ)
+module _ {R W : Type 0} (fails : R → Type 0) (remaining : R → Option (List ℕ)) (refuses : W → Type 0) (contents : W → Option (List ℕ)) (tenants : ℕ) (bound : Bound)
     (reader reader' : R) (writer writer' : W) (keeps : Keeps (contents writer) (contents writer')) where
   -- why the input couldn't be read
   pub unread_fails : (e : ScriptError) (seen : List ℕ) → Consumes (remaining reader) (remaining reader') seen

@@ -9,6 +9,7 @@ use Rattle.std.proofs.lemmas.Bool.{true≢false}
 use Rattle.std.proofs.lemmas.List.{nil_from_length}
 use Rattle.std.proofs.lemmas.List.Elements.{recursion_from_All}
 use Rattle.std.proofs.lemmas.List.Sorted.{length_permutation}
+use Rattle.sb_tenant.specs.declared.bound.Bound.{Bound}
 use Rattle.sb_tenant.specs.declared.reply.Entry.{Entry}
 use Rattle.sb_tenant.specs.Limits.{trail_limit}
 use Rattle.sb_desk.specs.declared.receipts.Receipt.{Receipt}
@@ -86,7 +87,7 @@ same_length R k [] (sheet ∷ sheets) all = absurd all
 same_length R k (row ∷ rows) [] all = absurd all
 same_length R k (row ∷ rows) (sheet ∷ sheets) all = let others = same_length R (k + 1) rows sheets all.1 in omega arith
 
-pub replays : (tenants bound : ℕ) (input text : List ℕ) (rows : List (Vec (Vec ℕ Global) Global)) (sheets : List Sheet) (stubs : List Stub)
+pub replays : (tenants : ℕ) (bound : Bound) (input text : List ℕ) (rows : List (Vec (Vec ℕ Global) Global)) (sheets : List Sheet) (stubs : List Stub)
     → OrderIsFixed → HoldsScript tenants input rows → AreAttended rows sheets stubs → Reports tenants bound stubs sheets text → Replays tenants bound input text
 replays tenants bound input text rows sheets stubs fixed script attended reports =
     let R : ℕ → Vec (Vec ℕ Global) Global → Sheet → Type 0 = AttendedAt (λ k. gathered (tenant_at k) (session_at k) stubs) in
@@ -114,13 +115,13 @@ replays tenants bound input text rows sheets stubs fixed script attended reports
     }
 
 -- where the input is known
-pub replays_known : (tenants bound : ℕ) (known : Option (List ℕ)) (text : List ℕ) (rows : List (Vec (Vec ℕ Global) Global)) (sheets : List Sheet) (stubs : List Stub)
+pub replays_known : (tenants : ℕ) (bound : Bound) (known : Option (List ℕ)) (text : List ℕ) (rows : List (Vec (Vec ℕ Global) Global)) (sheets : List Sheet) (stubs : List Stub)
     → OrderIsFixed → IfSome known (λ input. HoldsScript tenants input rows) → AreAttended rows sheets stubs → Reports tenants bound stubs sheets text
     → IfSome known (λ input. Replays tenants bound input text)
 replays_known tenants bound None text rows sheets stubs fixed script attended reports = tt
 replays_known tenants bound (Some input) text rows sheets stubs fixed script attended reports = replays tenants bound input text rows sheets stubs fixed script attended reports
 
-pub and_appends : (tenants bound : ℕ) (known old new : Option (List ℕ)) (text : List ℕ)
+pub and_appends : (tenants : ℕ) (bound : Bound) (known old new : Option (List ℕ)) (text : List ℕ)
     → IfSome known (λ input. Replays tenants bound input text) → Appends old new text
     → IfSome known (λ input. (text : List ℕ) × Appends old new text × Replays tenants bound input text)
 and_appends tenants bound None old new text replays appends = tt

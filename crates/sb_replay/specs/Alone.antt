@@ -1,6 +1,7 @@
 -- Promise: a session that has its tenant for itself is told what the one-tenant engine tells it.
 use Rattle.std.specs.Prelude.{◌≡◌, ◌<◌, ⊤, ℕ, ◌==◌, if◌then◌else◌, false, List, [], ◌∷◌, ◌++◌, flat_map, codes, Result, Ok, Err}
 use Rattle.std.specs.List.{AllByRecursion}
+use Rattle.sb_tenant.specs.declared.bound.Bound.{Bound}
 use Rattle.sb_value.specs.declared.refusal.Refusal.TheVariants.{NoMemory}
 use Rattle.sb_tenant.specs.declared.reply.Answer.{Answer}
 use Rattle.sb_tenant.specs.declared.reply.Reply.TheVariants.{No}
@@ -20,7 +21,7 @@ IsServed (Ok answer) = (answer.reply ≡ No NoMemory → ⊥) × (is_absent answ
 IsServed (Err call.Ended) = ⊤
 IsServed (Err call.NotBegun) = ⊥
 
-module _ (bound t s : ℕ) where
+module _ (bound : Bound) (t s : ℕ) where
   -- behind an `end` no session is open
   abbrev pub text_behind : List (List ℕ) → List ℕ
   text_behind commands = flat_map (λ c. told_text t s (Err call.Ended)) commands
@@ -38,7 +39,7 @@ module _ (bound t s : ℕ) where
 
 -- The other sessions of its tenant have no commands: then the session's text depends on its own commands alone, whatever other tenants
 -- sent, and however many cells and workers there were.
-abbrev pub TellsAsAlone : {tenants bound : ℕ} {input text : List ℕ} → Replays tenants bound input text → Type 0
+abbrev pub TellsAsAlone : {tenants : ℕ} {bound : Bound} {input text : List ℕ} → Replays tenants bound input text → Type 0
 TellsAsAlone {tenants} {bound} r =
     (t s : ℕ) (there : t < tenants) (one : s < session_count)
     → ((o : ℕ) → o < session_count → (o == s) ≡ false → commands_for t o r.asks ≡ [])

@@ -3,6 +3,7 @@ use Rattle.std.specs.Prelude.{◌≡◌, ◌⊎◌, ⊤, ◌+◌, ◌*◌, ◌<�
 use Rattle.std.specs.Global.{Global}
 use Rattle.std.specs.List.{All, Contains}
 use Rattle.std.specs.Io.KnownBytes.{Appends, Consumes, Keeps}
+use Rattle.sb_tenant.specs.declared.bound.Bound.{Bound}
 use Rattle.sb_tenant.specs.declared.reply.Entry.{Entry}
 use Rattle.sb_tenant.specs.Limits.{session_count, trail_limit}
 use Rattle.sb_wire.specs.Counts.{totals_line}
@@ -37,7 +38,7 @@ text_at texts t s = get_or texts (rank t s) []
 
 -- On a fresh host of so many tenants: legal trails, in which each session has just the entries of its commands, and the text of the
 -- sessions in the order of their tenants and numbers.
-pub record Replays (tenants bound : ℕ) (input text : List ℕ) : Type 0 where
+pub record Replays (tenants : ℕ) (bound : Bound) (input text : List ℕ) : Type 0 where
   pub asks : List Addressed
   pub asked : IsAsked tenants input asks
   pub trails : List (Vec Entry Global)
@@ -59,7 +60,7 @@ abbrev pub IsDenied : List (Vec Entry Global) → Sheet → Type 0
 IsDenied trails sheet = (sheet.is_full ≡ true) × (length (row_at trails sheet.tenant) < trail_limit)
 
 -- trails with which all stubs agree, and this is the text
-pub record Reports (tenants bound : ℕ) (stubs : List Stub) (sheets : List Sheet) (text : List ℕ) : Type 0 where
+pub record Reports (tenants : ℕ) (bound : Bound) (stubs : List Stub) (sheets : List Sheet) (text : List ℕ) : Type 0 where
   pub trails : List (Vec Entry Global)
   pub legal : AreTrails bound tenants trails
   pub agree : (t s : ℕ) → s < session_count → Agrees t s stubs trails
@@ -108,19 +109,19 @@ abbrev pub DeniesOne : List (Vec Entry Global) → List Sheet → FinishError �
 DeniesOne trails sheets e = (sheet : Sheet) × Contains sheets sheet × DeniesSheet trails sheet e
 
 -- `finish` answered so of these stubs, or reported, and one of these sessions was told of a full trail that isn't
-abbrev pub IsUnreported : ℕ → ℕ → List Stub → List Sheet → FinishError → Type 0
+abbrev pub IsUnreported : ℕ → Bound → List Stub → List Sheet → FinishError → Type 0
 IsUnreported tenants bound stubs sheets e =
     Finishes bound tenants stubs (Err e)
     ⊎ ((report : Report) × Finishes bound tenants stubs (Ok report) × DeniesOne report.trails.items sheets e)
 
 -- so it was, or there was no memory
-abbrev pub IsUnfinished : ℕ → ℕ → List Stub → List Sheet → ReplayError → Type 0
+abbrev pub IsUnfinished : ℕ → Bound → List Stub → List Sheet → ReplayError → Type 0
 IsUnfinished tenants bound stubs sheets (Finish e) = IsUnreported tenants bound stubs sheets e
 IsUnfinished tenants bound stubs sheets NoMemory = ⊤
 IsUnfinished tenants bound stubs sheets other = ⊥
 
 -- so it was of the sessions of an input, which were called with all their commands; or the receipts of one deny its own order
-abbrev pub FailsToFinish : ℕ → ℕ → Option (List ℕ) → FinishError → Type 0
+abbrev pub FailsToFinish : ℕ → Bound → Option (List ℕ) → FinishError → Type 0
 FailsToFinish tenants bound known e =
     ((rows : List (Vec (Vec ℕ Global) Global)) × (sheets : List Sheet) × (stubs : List Stub)
     × IfSome known (λ input. HoldsScript tenants input rows) × AreAttended rows sheets stubs × IsUnreported tenants bound stubs sheets e)
@@ -139,7 +140,7 @@ unread_by script.NoMemory = NoMemory
 
 -- Nothing is written but where the writer fails. Where the input isn't understood it tells what was read, and where the writer fails
 -- what it took of the text.
-module _ {R W : Type 0} (fails : R → Type 0) (remaining : R → Option (List ℕ)) (refuses : W → Type 0) (contents : W → Option (List ℕ)) (tenants bound : ℕ) where
+module _ {R W : Type 0} (fails : R → Type 0) (remaining : R → Option (List ℕ)) (refuses : W → Type 0) (contents : W → Option (List ℕ)) (tenants : ℕ) (bound : Bound) where
   abbrev pub Fails : R → R → W → W → ReplayError → Type 0
   Fails reader reader' writer writer' ReadFault =
       (seen : List ℕ) × Consumes (remaining reader) (remaining reader') seen

@@ -7,6 +7,7 @@ ghost use Rattle.sb_replay.specs.Replay.{Fails, Replays};
 use crate::error::ReplayError;
 use crate::replaying::replay;
 use sb_host::{Host, Naming, Opened};
+use sb_tenant::Bound;
 use sb_wire::{Sink, Source};
 use std::alloc::Global;
 use std::marker::Brand;
@@ -17,7 +18,7 @@ use std::thread::Threads;
 #[derive(Clone, Copy, Debug)]
 pub struct Size {
     pub tenants: u32,
-    pub bound: u32,
+    pub bound: Bound,
     pub cells: u32,
     pub workers: u32,
 }
@@ -30,7 +31,7 @@ pub fn replay_fresh<T: Threads + Wait + Sync, R: Source, W: Sink>(
     reader: &mut R,
     writer: &mut W,
 ) -> Result<(), ReplayError>
-    requires tenants { (0 < size.tenants) × (size.tenants ≤ 256) × (size.bound ≤ 1000) }
+    requires tenants { (0 < size.tenants) × (size.tenants ≤ 256) × (size.bound.considerations ≤ 1000) }
     requires cells { (0 < size.cells) × (size.cells ≤ 16) }
     requires workers { (0 < size.workers) × (size.workers ≤ 16) }
     ensures ok { OnOk result (IfSome (R.remaining reader.old) (λ input. (text : List ℕ)

@@ -3,6 +3,7 @@ use Rattle.std.proofs.Common.{◌≡◌, ℕ, Bool, true, false, cond, ◌&&◌,
 use Rattle.std.specs.Prelude.{OnOk}
 use Rattle.std.specs.Fmt.{digits}
 use Rattle.std.proofs.lemmas.Bool.{eqb-true}
+use Rattle.sb_tenant.specs.declared.bound.Bound.{Bound}
 use Rattle.sb_value.specs.declared.refusal.Refusal.TheVariants.{NoMemory, TrailFull}
 use Rattle.sb_tenant.specs.declared.reply.Answer.{Answer}
 use Rattle.sb_tenant.specs.declared.reply.Entry.{Entry}
@@ -42,7 +43,7 @@ all_same before after t own others = λ i u. by_test u (u == t) refl i
     by_test u false other = others u other
 
 -- a full trail refuses the line
-full_step : (t bound : ℕ) (state : State) (s : ℕ) (l : List ℕ) → is_full_for state s l ≡ true → step t bound state s l ≡ (state, record { number = None; reply = No TrailFull })
+full_step : (t : ℕ) (bound : Bound) (state : State) (s : ℕ) (l : List ℕ) → is_full_for state s l ≡ true → step t bound state s l ≡ (state, record { number = None; reply = No TrailFull })
 full_step t bound state s l full = ap placed full
   where
     placed : Bool → State × Answer
@@ -57,7 +58,7 @@ pub same_again : (one two three : Cell) → IsSame one two → IsSame two three 
 same_again one two three (first, stride, bound, count) (first', stride', bound', count') = (first' ∙ first, stride' ∙ stride, bound' ∙ bound, count' ∙ count)
 
 -- by whether the cell hosts the tenant, and whether the session is one
-abbrev reply_by : ℕ → Bool → Bool → (ℕ → State) → Addressed → List ℕ × (ℕ → State)
+abbrev reply_by : Bound → Bool → Bool → (ℕ → State) → Addressed → List ℕ × (ℕ → State)
 reply_by bound hosted is_one states a =
     elim hosted [
       | false ↦ (prefixed (address a) (codes "no 13 NoTenant" ∷ []), states)
@@ -79,7 +80,7 @@ module _ (a : Addressed) (old new : Cell) where
 
   -- the tenant's state after it is that of its new trail
   own_state : IsSame old new → states new a.tenant ≡ state_of a.tenant old.bound (trails new a.tenant)
-  own_state (first, stride, bound, count) = ap (λ (b : ℕ). state_of a.tenant b (trails new a.tenant)) bound
+  own_state (first, stride, bound, count) = ap (λ (b : Bound). state_of a.tenant b (trails new a.tenant)) bound
 
   module _ (others : (u : ℕ) → IsFalse (u == a.tenant) → tenant_at new u ≡ tenant_at old u) (same : IsSame old new) where
     other_states : (u : ℕ) → (u == a.tenant) ≡ false → states new u ≡ states old u

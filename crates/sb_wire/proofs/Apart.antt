@@ -5,6 +5,7 @@ use Rattle.std.specs.List.{AllByRecursion}
 use Rattle.std.proofs.lemmas.Bool.{true≢false, false≢true, false_from_ne_true}
 use Rattle.std.proofs.lemmas.List.Elements.{filter-append, filter_map-append}
 use Rattle.std.proofs.lemmas.List.Concat.{flat_map-append}
+use Rattle.sb_tenant.specs.declared.bound.Bound.{Bound}
 use Rattle.sb_tenant.specs.declared.reply.Answer.{Answer}
 use Rattle.sb_tenant.specs.Limits.{is_session}
 use Rattle.sb_tenant.specs.State.{State}
@@ -55,7 +56,7 @@ asked-line p a named t b is = ap (λ (o : Option Addressed). one (own_of t o)) n
     by true = refl
     by false = refl
 
-module _ (hosts : ℕ → Bool) (bound : ℕ) where
+module _ (hosts : ℕ → Bool) (bound : Bound) where
   -- lines that answer these pieces tell each tenant what it would be told alone
   abbrev Apart : (ℕ → State) → List Piece → List (List ℕ) → (ℕ → State) → Type 0
   Apart before ps lines after =

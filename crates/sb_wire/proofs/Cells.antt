@@ -3,6 +3,7 @@ use Rattle.std.proofs.Common.{◌≡◌, ◌∙◌, sym, ap, subst, refl, inl, i
 use Rattle.std.proofs.lemmas.Bool.{false≢true}
 use Rattle.std.specs.Prelude.{OnOk, IfSome}
 use Rattle.std.specs.Io.KnownBytes.{Appends, Consumes, IsAtEnd}
+use Rattle.sb_tenant.specs.declared.bound.Bound.{Bound}
 use Rattle.sb_cell.specs.Tenants.{Cell, hosts}
 use Rattle.sb_wire.specs.Lines.{Piece, pieces_of}
 use Rattle.sb_wire.specs.Output.{AreAnswers, IsOutput}
@@ -43,7 +44,7 @@ told old new (p ∷ ps) text (first, rest, mid, is, going, (r, said, own, same, 
     let later = next.0 in
     let after =
     subst (λ (h : ℕ → Bool). AreAnswers h old.0.bound (states mid.0) ps rest (states new.0)) (same_hosts old.0 mid.0 same)
-    (subst (λ (k : ℕ). AreAnswers (hosts mid.0) k (states mid.0) ps rest (states new.0)) same.2 later.answers) in
+    (subst (λ (k : Bound). AreAnswers (hosts mid.0) k (states mid.0) ps rest (states new.0)) same.2 later.answers) in
     let answers : AreAnswers (hosts old.0) old.0.bound (states old.0) (p ∷ ps) text (states new.0) = (first, rest, states mid.0, is, own, after) in
     let count = subst (λ (t : List ℕ). Counts (p ∷ []) t old.1 mid.1) (sym said) (counts-one p r old.1 mid.1 adds) in (
       record { answers = answers; apart = apart-in old.0 (p ∷ ps) text new.0 answers; same = same_again old.0 mid.0 new.0 same later.same },

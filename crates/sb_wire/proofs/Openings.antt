@@ -2,6 +2,7 @@
 use Rattle.std.proofs.Common.{◌≡◌, ◌∙◌, sym, ap, subst, lt-ltb, ◌==◌, ◌%◌, ◌&&◌, nat_lt, true, Bool, List, ℕ, Option, Some, None, eq-eqb, arith}
 use Rattle.std.specs.Io.KnownBytes.{Appends}
 use Rattle.std.specs.Prelude.{IfSome, OnOk, Result, Ok, Err}
+use Rattle.sb_tenant.specs.declared.bound.Bound.{Bound}
 use Rattle.sb_tenant.specs.State.{State, opening}
 use Rattle.sb_tenant.specs.Trail.{state_of}
 use Rattle.sb_cell.specs.Tenants.{Cell, IsNew, hosts}
@@ -11,7 +12,7 @@ use Rattle.sb_wire.specs.Apart.{lines_alone, state_alone}
 use Rattle.sb_wire.specs.Stream.{states, AnswersInput, AnswersFresh, SameLinesAreToldTheSame}
 use Rattle.sb_wire.proofs.Apart.{runs-apart}
 
-module _ (tenants bound : ℕ) (c : Cell) (new : IsNew 0 1 tenants bound c) where
+module _ (tenants : ℕ) (bound : Bound) (c : Cell) (new : IsNew 0 1 tenants bound c) where
   below : hosts c ≡ (λ t. nat_lt t tenants)
   below = λ i t. (new.hosted t ∙ ap (λ (b : Bool). b && nat_lt t tenants) (first t)) i
     where
@@ -43,7 +44,7 @@ module _ (tenants bound : ℕ) (c : Cell) (new : IsNew 0 1 tenants bound c) wher
   fresh-ok (Ok x) (Some bytes) held holds after (text, appends, told) = (text, appends, fresh-answers bytes text after told)
 
 -- two inputs with the same lines of a tenant
-pub told-the-same : (bound : ℕ) → SameLinesAreToldTheSame bound
+pub told-the-same : (bound : Bound) → SameLinesAreToldTheSame bound
 told-the-same bound tenants others input text another told one two t below below_too none none_too same =
     let a = one.apart.alone t (lt-ltb t tenants below) none in
     let b = two.apart.alone t (lt-ltb t others below_too) none_too in

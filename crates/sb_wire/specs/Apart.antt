@@ -1,6 +1,7 @@
 -- Promise: what each tenant is told of a stream, whatever the others send: what it would be told if it were alone.
 use Rattle.std.specs.Prelude.{◌≡◌, ℕ, ◌==◌, if◌then◌else◌, Bool, true, false, List, [], ◌∷◌, ◌++◌, map, filter, filter_map, Option, Some, None, IsTrue, codes}
 use Rattle.std.specs.List.{AllByRecursion}
+use Rattle.sb_tenant.specs.declared.bound.Bound.{Bound}
 use Rattle.sb_tenant.specs.Limits.{is_session}
 use Rattle.sb_tenant.specs.State.{State}
 use Rattle.sb_tenant.specs.Step.{step}
@@ -33,7 +34,7 @@ tenant_lines t lines = filter (λ l. is_of t (addressed_of l)) lines
 abbrev pub with_address : Addressed → List (List ℕ) → List (List ℕ)
 with_address a lines = map (λ l. words (address a ∷ l ∷ [])) lines
 
-module _ (bound t : ℕ) where
+module _ (bound : Bound) (t : ℕ) where
   -- the lines that answer one of its lines, and its state after it
   abbrev pub reply_alone : State → Addressed → List (List ℕ) × State
   reply_alone state a =
@@ -61,7 +62,7 @@ MetNoWant t lines =
 
 -- The headline. The text is made of lines. For each tenant that is hosted and met no want of memory, those that begin with its number are
 -- the one-tenant engine's replies to its own lines, and its state is the one that the engine then has.
-pub record RunsApart (hosts : ℕ → Bool) (bound : ℕ) (before : ℕ → State) (pieces : List Piece) (text : List ℕ) (after : ℕ → State) : Type 0 where
+pub record RunsApart (hosts : ℕ → Bool) (bound : Bound) (before : ℕ → State) (pieces : List Piece) (text : List ℕ) (after : ℕ → State) : Type 0 where
   pub lines : List (List ℕ)
   pub whole : text ≡ ended_lines lines
   pub alone : (t : ℕ) → IsTrue (hosts t) → MetNoWant t lines

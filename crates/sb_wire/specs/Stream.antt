@@ -1,6 +1,7 @@
 -- Promise: what a cell answers to lines, and how a stream of them ends.
 use Rattle.std.specs.Prelude.{◌≡◌, ◌⊎◌, ◌*◌, ◌<◌, ◌≤◌, nat_lt, ℕ, List, [], ◌∷◌, ◌++◌, length, Option, Result, Ok, Err, ⊤}
 use Rattle.std.specs.Io.KnownBytes.{Appends, Consumes, IsAtEnd, Keeps}
+use Rattle.sb_tenant.specs.declared.bound.Bound.{Bound}
 use Rattle.sb_tenant.specs.State.{State, opening}
 use Rattle.sb_tenant.specs.Trail.{state_of}
 use Rattle.sb_cell.specs.Tenants.{Cell, hosts, trails, IsSame}
@@ -40,7 +41,7 @@ pub record AnswersInput (old : Cell) (input text : List ℕ) (new : Cell) : Type
   pub same : IsSame old new
 
 -- A stream is answered on a fresh cell of the tenants below a number: all begin without tables and rules, and no session is open.
-pub record AnswersFresh (tenants bound : ℕ) (input text : List ℕ) : Type 0 where
+pub record AnswersFresh (tenants : ℕ) (bound : Bound) (input text : List ℕ) : Type 0 where
   pub after : ℕ → State
   pub answers : IsOutput (λ t. nat_lt t tenants) bound (λ t. opening) input text after
   pub exact : TellsNoWant text → text ≡ output (λ t. nat_lt t tenants) bound (λ t. opening) input
@@ -48,7 +49,7 @@ pub record AnswersFresh (tenants bound : ℕ) (input text : List ℕ) : Type 0 w
 
 -- Two inputs with the same lines of a tenant, on fresh cells that have it: where it met no want of memory, its lines of output are the same,
 -- whatever the other tenants sent and however many there are.
-abbrev pub SameLinesAreToldTheSame : ℕ → Type 0
+abbrev pub SameLinesAreToldTheSame : Bound → Type 0
 SameLinesAreToldTheSame bound =
     (tenants others : ℕ) (input text another told : List ℕ) (one : AnswersFresh tenants bound input text) (two : AnswersFresh others bound another told)
     → (t : ℕ) → t < tenants → t < others → MetNoWant t one.apart.lines → MetNoWant t two.apart.lines

@@ -10,6 +10,7 @@ use crate::fault::StreamError;
 use crate::run::run_stream;
 use crate::summary::Summary;
 use sb_cell::{Cell, ample_buckets};
+use sb_tenant::Bound;
 use std::alloc::{AllocError, Global};
 
 /// Answers the lines of the input on a fresh cell of the tenants below the number `tenants`. Error: a read or a write
@@ -17,13 +18,13 @@ use std::alloc::{AllocError, Global};
 pub fn run_fresh<R: Source, W: Sink>(
     alloc: Global,
     tenants: u32,
-    bound: u32,
+    bound: Bound,
     reader: &mut R,
     writer: &mut W,
     summary: &mut Summary,
 ) -> Result<(), StreamError>
     requires tenants { tenants ≤ 256 }
-    requires bound { bound ≤ 1000 }
+    requires bound { bound.considerations ≤ 1000 }
     ensures ok { OnOk result (IfSome (R.remaining reader.old) (λ input. (text : List ℕ)
         × Appends (W.contents writer.old) (W.contents writer.new) text
         × AnswersFresh tenants bound input text)) }

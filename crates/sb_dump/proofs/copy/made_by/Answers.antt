@@ -1,6 +1,7 @@
 use Rattle.std.proofs.Common.{◌≡◌, ℕ, List, [], ◌∷◌, ◌++◌, ap, sym, ◌∙◌, subst, eqb-true}
 use Rattle.std.specs.List.{All}
 use Rattle.std.proofs.lemmas.List.Elements.{All-head, All-tail}
+use Rattle.sb_tenant.specs.declared.bound.Bound.{Bound}
 use Rattle.sb_cell.specs.Tenants.{Cell, IsTenantOf, states, trail_of, trails}
 use Rattle.sb_dump.specs.Dumps.{played}
 use Rattle.sb_dump.specs.Playing.{HostsOnly}
@@ -12,7 +13,7 @@ last_all : (P : Tenant → Type 0) (xs : List Tenant) (x : Tenant) → All P (xs
 last_all P [] x h = All-head P x [] h
 last_all P (y ∷ ys) x h = last_all P ys x (All-tail P y (ys ++ x ∷ []) h)
 
-module _ (cell : Cell) (id bound : ℕ) (own : Tenant) (alone : HostsOnly id bound cell) (is : IsTenantOf cell own) where
+module _ (cell : Cell) (id : ℕ) (bound : Bound) (own : Tenant) (alone : HostsOnly id bound cell) (is : IsTenantOf cell own) where
   id_is : own.id ≡ id
   id_is = eqb-true own.id id (sym (alone.0 own.id) ∙ is.0)
 
