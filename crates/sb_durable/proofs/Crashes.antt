@@ -2,6 +2,7 @@
 use Rattle.std.proofs.Common.{◌≡◌, ◌⊎◌, ℕ, suc, ◌≤◌, ◌+◌, Bool, true, false, List, [], ◌∷◌, ◌++◌, length, map, flat_map, Option, Some, None, Result, Ok, Err, is_some, codes, IfSome, OnOk, ◌<◌, refl, sym, ap, ◌∙◌, subst, inl, inr, arith, append_assoc, append-nil, IsTrue}
 use Rattle.std.specs.List.{AllByRecursion}
 use Rattle.std.proofs.lemmas.Bool.{true≢false}
+use Rattle.sb_tenant.specs.declared.bound.Bound.{Bound}
 use Rattle.sqlite_disk.specs.declared.Disk.{Ghosts}
 use Rattle.sb_durable.specs.Journal.{Has, Keeps, disk_of}
 use Rattle.sb_durable.specs.Records.{Entry as Record, IsEntry}
@@ -97,7 +98,7 @@ abbrev answers_as : Kind → Cell → Piece → List ℕ → Cell → Type 0
 answers_as k old p text new = IsAnswer k.1 k.0 (states old) p text (states new)
 
 -- a refused line leaves all as it was
-refused : (hosts : ℕ → Bool) (bound : ℕ) (before : ℕ → State) (p : Piece) (r : WireRefusal) → IsResponse p (line_refusal r) → reply_to_piece hosts bound before p ≡ (response_text (line_refusal r), before)
+refused : (hosts : ℕ → Bool) (bound : Bound) (before : ℕ → State) (p : Piece) (r : WireRefusal) → IsResponse p (line_refusal r) → reply_to_piece hosts bound before p ≡ (response_text (line_refusal r), before)
 refused hosts bound before too_long r is = λ i. (response_text (sym is i), before)
 refused hosts bound before (line bytes) r fits = by (addressed_of bytes) refl fits
   where

@@ -3,6 +3,7 @@ use Rattle.std.proofs.Common.{◌≡◌, ◌∙◌, ◌⊎◌, ◌==◌, ◌%◌
 use Rattle.std.proofs.lemmas.Bool.{eq-eqb, false≢true}
 use Rattle.std.specs.Prelude.{IfErr, IfSome, OnOk}
 use Rattle.std.specs.Io.KnownBytes.{Appends}
+use Rattle.sb_tenant.specs.declared.bound.Bound.{Bound}
 use Rattle.sqlite_disk.specs.declared.Disk.{Ghosts}
 use Rattle.sb_tenant.specs.State.{State}
 use Rattle.sb_cell.specs.Tenants.{Cell, IsNew, IsSame, hosts, states}
@@ -19,7 +20,7 @@ use Rattle.sb_durable.specs.declared.journal_fault.JournalFault.{JournalFault}
 use Rattle.sb_durable.specs.declared.journal_fault.JournalFault.TheVariants.{Failed, Stream}
 
 -- a fresh cell on which a restart was made
-pub begun_by : (tenants bound : ℕ) (fresh cell : Cell) (records : List Record) → IsNew 0 1 tenants bound fresh → IsSame fresh cell → IsRestarted cell records → IsBegun tenants bound records cell
+pub begun_by : (tenants : ℕ) (bound : Bound) (fresh cell : Cell) (records : List Record) → IsNew 0 1 tenants bound fresh → IsSame fresh cell → IsRestarted cell records → IsBegun tenants bound records cell
 begun_by tenants bound fresh cell records new same restarts = record {
   hosted = λ t. (λ i. (t % same.1 i == same.0 i) && nat_lt (t / same.1 i) (same.3 i)) ∙ new.hosted t ∙ ap (λ (b : Bool). b && nat_lt t tenants) (first t);
   at_most = same.2 ∙ new.at_most;
@@ -30,7 +31,7 @@ begun_by tenants bound fresh cell records new same restarts = record {
     first t = let none : t % 1 ≡ 0 = omega arith in eq-eqb (t % 1) 0 none
 
 -- each tenant is told what it would be told alone, from what its records make
-apart_from : (tenants bound : ℕ) (records : List Record) (cell after : Cell) (pieces : List Piece) (text : List ℕ) → IsBegun tenants bound records cell → RunsApart (hosts cell) cell.bound (states cell) pieces text (states after)
+apart_from : (tenants : ℕ) (bound : Bound) (records : List Record) (cell after : Cell) (pieces : List Piece) (text : List ℕ) → IsBegun tenants bound records cell → RunsApart (hosts cell) cell.bound (states cell) pieces text (states after)
     → RunsApart (λ t. nat_lt t tenants) bound (λ t. restarted bound t records) pieces text (states after)
 apart_from tenants bound records cell after pieces text begun apart = record {
   lines = apart.lines;
@@ -38,15 +39,15 @@ apart_from tenants bound records cell after pieces text begun apart = record {
   alone = λ t hosted none. by t (subst IsTrue (sym (begun.hosted t)) hosted) none;
 }
   where
-    Alone : ℕ → ℕ → State → Type 0
+    Alone : ℕ → Bound → State → Type 0
     Alone t b s = (tenant_lines t apart.lines ≡ lines_alone b t s (own_lines t pieces)) × (states after t ≡ state_alone b t s (own_lines t pieces))
 
     by : (t : ℕ) → IsTrue (hosts cell t) → MetNoWant t apart.lines → Alone t bound (restarted bound t records)
     by t hosted none =
-        subst (λ (s : State). Alone t bound s) (begun.is_restarted t hosted ∙ ap (λ (b : ℕ). restarted b t records) begun.at_most)
-        (subst (λ (b : ℕ). Alone t b (states cell t)) begun.at_most (apart.alone t hosted none))
+        subst (λ (s : State). Alone t bound s) (begun.is_restarted t hosted ∙ ap (λ (b : Bound). restarted b t records) begun.at_most)
+        (subst (λ (b : Bound). Alone t b (states cell t)) begun.at_most (apart.alone t hosted none))
 
-pub answers_journaled : (tenants bound : ℕ) (records : List Record) (cell after : Cell) (input held holds : Option (List ℕ)) → IsBegun tenants bound records cell
+pub answers_journaled : (tenants : ℕ) (bound : Bound) (records : List Record) (cell after : Cell) (input held holds : Option (List ℕ)) → IsBegun tenants bound records cell
     → IfSome input (λ bytes. (text : List ℕ) × Appends held holds text × AnswersRecorded cell bytes text after)
     → IfSome input (λ bytes. (text : List ℕ) × Appends held holds text × AnswersJournaled tenants bound bytes text)
 answers_journaled tenants bound records cell after None held holds begun answers = tt
@@ -93,7 +94,7 @@ any_told old new pieces h0 h1 left told_by crash r = record {
 
 module _ {R W : Type 0} (fails : R → Type 0) (remaining : R → Option (List ℕ)) (contents : W → Option (List ℕ)) (reader rest : R) (writer after : W) where
   -- it stopped behind the answers of some lines
-  pub stops_behind : {D : Type 0} (disk : Ghosts D) (tenants bound : ℕ) (old new : Recording D disk) (ended : Result (Unit {0}) StreamError) (why : JournalFault)
+  pub stops_behind : {D : Type 0} (disk : Ghosts D) (tenants : ℕ) (bound : Bound) (old new : Recording D disk) (ended : Result (Unit {0}) StreamError) (why : JournalFault)
       → RunsJournaled fails remaining contents reader rest writer after disk tenants bound old new ended
       → (why ≡ Failed) ⊎ ((is_some new.fault ≡ false) × ((e : StreamError) × (ended ≡ Err e) × (why ≡ Stream e))) → EndsJournaled fails remaining contents reader rest writer after tenants bound why
   stops_behind disk tenants bound old new ended why runs reason = inr (record {
@@ -115,7 +116,7 @@ module _ {R W : Type 0} (fails : R → Type 0) (remaining : R → Option (List �
   })
 
   -- by the fault of the journal, or as its stream did
-  pub ends_by : {D : Type 0} (disk : Ghosts D) (tenants bound : ℕ) (old new : Recording D disk) (ended : Result (Unit {0}) StreamError) (told : Result (Unit {0}) JournalFault)
+  pub ends_by : {D : Type 0} (disk : Ghosts D) (tenants : ℕ) (bound : Bound) (old new : Recording D disk) (ended : Result (Unit {0}) StreamError) (told : Result (Unit {0}) JournalFault)
       → RunsJournaled fails remaining contents reader rest writer after disk tenants bound old new ended
       → IfErr told (λ why. ((is_some new.fault ≡ true) × (why ≡ Failed)) ⊎ ((is_some new.fault ≡ false) × ((e : StreamError) × (ended ≡ Err e) × (why ≡ Stream e))))
       → IfErr told (EndsJournaled fails remaining contents reader rest writer after tenants bound)

@@ -1,5 +1,6 @@
 -- The lines that a legal trail is recorded as make its state again.
 use Rattle.std.proofs.Common.{◌≡◌, ◌⊎◌, ℕ, ◌+◌, Bool, true, false, not, ◌&&◌, List, [], ◌∷◌, map, codes, cond, Option, Some, None, Ok, refl, sym, ap, ◌∙◌, inl, inr, nat_le, IsFalse}
+use Rattle.sb_tenant.specs.declared.bound.Bound.{Bound}
 use Rattle.sb_value.specs.declared.refusal.Refusal.TheVariants as refusal
 use Rattle.sb_syntax.specs.Text.{command_of}
 use Rattle.sb_syntax.specs.Tree.{Command, rollback}
@@ -28,7 +29,7 @@ not_full false e full ends = refl
 not_full true true full ends = ends
 not_full true false full ends = full
 
-module _ (tenant bound : ℕ) where
+module _ (tenant : ℕ) (bound : Bound) where
   abbrev by_command : State → ℕ → Option Command → State × Reply
   by_command st s c = elim c [ None ↦ (st, reply.No refusal.Syntax) | Some command ↦ reply_to_command tenant bound st s command ]
 

@@ -2,6 +2,7 @@
 use Rattle.std.proofs.Common.{◌≡◌, ℕ, ◌/◌, ◌%◌, Bool, true, false, cond, ◌==◌, ◌&&◌, nat_lt, List, [], ◌∷◌, ◌++◌, codes, Option, Some, None, Result, Ok, Err, refl, sym, ap, ◌∙◌, subst, inl, inr, IsTrue}
 use Rattle.std.proofs.lemmas.Bool.{eqb-true, eq-eqb}
 use Rattle.std.proofs.lemmas.List.Elements.{filter_map-append}
+use Rattle.sb_tenant.specs.declared.bound.Bound.{Bound}
 use Rattle.sb_durable.specs.Records.{Entry as Record}
 use Rattle.sb_tenant.specs.declared.reply.Answer.{Answer}
 use Rattle.sb_tenant.specs.Limits.{is_session}
@@ -19,11 +20,11 @@ use Rattle.sb_durable.proofs.Replaying.{one}
 
 -- ---- lists of records
 
-pub after-append : (t bound : ℕ) (st : State) (xs ys : List (ℕ × List ℕ)) → state_after t bound st (xs ++ ys) ≡ state_after t bound (state_after t bound st xs) ys
+pub after-append : (t : ℕ) (bound : Bound) (st : State) (xs ys : List (ℕ × List ℕ)) → state_after t bound st (xs ++ ys) ≡ state_after t bound (state_after t bound st xs) ys
 after-append t bound st [] ys = refl
 after-append t bound st (x ∷ xs) ys = after-append t bound (step t bound st x.0 x.1).0 xs ys
 
-pub made-append : (bound t : ℕ) (records more : List Record) → made_of bound t (records ++ more) ≡ state_after t bound (made_of bound t records) (own_records t more)
+pub made-append : (bound : Bound) (t : ℕ) (records more : List Record) → made_of bound t (records ++ more) ≡ state_after t bound (made_of bound t records) (own_records t more)
 made-append bound t records more =
     ap (state_after t bound opening) (filter_map-append (own_record t) records more)
     ∙ after-append t bound opening (own_records t records) (own_records t more)

@@ -5,6 +5,7 @@ use Rattle.std.specs.Prelude.{map}
 use Rattle.std.proofs.lemmas.Bool.{eq-eqb}
 use Rattle.std.proofs.lemmas.List.{map-append, take-append-drop}
 use Rattle.std.proofs.lemmas.List.Elements.{filter_map-append}
+use Rattle.sb_tenant.specs.declared.bound.Bound.{Bound}
 use Rattle.sb_durable.specs.Records.{Entry as Record}
 use Rattle.sb_durable.specs.RecordedLives.{last_of, steps_in}
 use Rattle.sb_durable.specs.Recording.{played, record_of}
@@ -30,7 +31,7 @@ read_steps t [] all = refl
 read_steps t (e ∷ es) all =
     λ i. cons_option (by_step (t == t) (is_session e.session) (stepped (played e)) (volume_operation_of (record_of t e)) (eq-eqb t t refl) all.0 i) (read_steps t es all.1 i)
 
-module _ (t bound : ℕ) where
+module _ (t : ℕ) (bound : Bound) where
   back_sessions : (n : ℕ) (before after : State) (trail : List Entry) → IsLegal t bound before trail after → AllByRecursion (λ e. IsTrue (is_session e.0)) (map played (drop n trail))
   back_sessions zero before after trail legal = by_sessions t bound before after trail legal
   back_sessions (suc n) before after [] legal = tt
@@ -68,7 +69,7 @@ module _ (t bound : ℕ) where
       ∙ ap (λ (st : State). after_operations bound t (st, None) rest) (in_parts w.volume.opening w.trail are.1)
       ∙ goes_on w ws are.2
 
-pub lives_are_made : (bound t : ℕ) → LivesAreMade bound t
+pub lives_are_made : (bound : Bound) (t : ℕ) → LivesAreMade bound t
 lives_are_made bound t v ws life are =
     let rest = own_operations t (steps_behind bound t ws) in
     let all : steps_in t v ≡ map (record_of t) v.trail = ap (λ (n : ℕ). map (record_of t) (drop n v.trail)) (ap (λ x. x.opening) life.0) in

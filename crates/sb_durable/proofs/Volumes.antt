@@ -4,6 +4,7 @@ use Rattle.std.specs.List.{AllByRecursion, cons_option}
 use Rattle.std.specs.Prelude.{map, option_map}
 use Rattle.std.proofs.lemmas.Bool.{eq-eqb, le-ltb}
 use Rattle.std.proofs.lemmas.List.Elements.{filter_map-append}
+use Rattle.sb_tenant.specs.declared.bound.Bound.{Bound}
 use Rattle.sb_durable.specs.Records.{Entry as Record}
 use Rattle.sb_durable.specs.Restart as restart
 use Rattle.sb_durable.specs.Recording.{played}
@@ -16,7 +17,7 @@ use Rattle.sb_tenant.specs.Tenant as tenant
 use Rattle.sb_tenant.specs.Tenant.{Tenant}
 use Rattle.sb_tenant.specs.Trail.{IsLegal, replayed, state_after}
 
-module _ (bound t : ℕ) where
+module _ (bound : Bound) (t : ℕ) where
   abbrev run : State × Option State → List Operation → State × Option State
   run p operations = after_operations bound t p operations
 
@@ -64,13 +65,13 @@ module _ (bound t : ℕ) where
       let p = run (opening, None) (own_operations t records) in
       ap (λ (q : State × Option State). q.0) (made-append records more ∙ ap (run p) (is ∙ sym (append-nil (volume script))) ∙ turned p script [])
 
-pub older_are_of_no_use : (bound t : ℕ) → OlderAreOfNoUse bound t
+pub older_are_of_no_use : (bound : Bound) (t : ℕ) → OlderAreOfNoUse bound t
 older_are_of_no_use bound t = older_are_of_no_use_to bound t
 
-pub drafts_are_nothing : (bound t : ℕ) → DraftsAreNothing bound t
+pub drafts_are_nothing : (bound : Bound) (t : ℕ) → DraftsAreNothing bound t
 drafts_are_nothing bound t = drafts_are_nothing_to bound t
 
-pub volumes_stand : (bound t : ℕ) → VolumesStand bound t
+pub volumes_stand : (bound : Bound) (t : ℕ) → VolumesStand bound t
 volumes_stand bound t = volumes_stand_of bound t
 
 -- ---- records of sessions alone
@@ -95,11 +96,11 @@ own_steps t (r ∷ rs) all =
     (λ i. cons_option (by_tests (t == r.tenant) (is_session r.session) r.session r.line (volume_operation_of r) all.0 i) (own_steps t rs all.1 i))
     ∙ cons_stepped (restart.own_record t r) (restart.own_records t rs)
 
-pub after_steps : (bound t : ℕ) (state : State) (es : List (ℕ × List ℕ)) → after_operations bound t (state, None) (map stepped es) ≡ (state_after t bound state es, None)
+pub after_steps : (bound : Bound) (t : ℕ) (state : State) (es : List (ℕ × List ℕ)) → after_operations bound t (state, None) (map stepped es) ≡ (state_after t bound state es, None)
 after_steps bound t state [] = refl
 after_steps bound t state (e ∷ es) = after_steps bound t (after_step bound t state e.0 e.1) es
 
-pub sessions_alone : (bound t : ℕ) → SessionsAlone bound t
+pub sessions_alone : (bound : Bound) (t : ℕ) → SessionsAlone bound t
 sessions_alone bound t records all =
     ap (λ (p : State × Option State). p.0) (
     ap (λ (ds : List Operation). after_operations bound t (opening, None) ds) (own_steps t records all)
@@ -147,7 +148,7 @@ module _ (t : ℕ) where
 
 -- ---- the opening of a legal trail
 
-module _ (t bound : ℕ) where
+module _ (t : ℕ) (bound : Bound) where
   pub front_legal : (n : ℕ) (before after : State) (trail : List Entry) → IsLegal t bound before trail after → IsLegal t bound before (take n trail) (replayed t bound before (take n trail))
   front_legal zero before after trail legal = refl
   front_legal (suc n) before after [] legal = refl

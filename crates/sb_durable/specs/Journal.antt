@@ -13,7 +13,7 @@ abbrev pub magic : List ℕ
 magic = 70 ∷ 73 ∷ 76 ∷ 71 ∷ 74 ∷ 82 ∷ 78 ∷ 49 ∷ []
 
 abbrev pub head_bytes : Head → List ℕ
-head_bytes head = magic ++ (to_be_bytes w32 head.tenants ++ to_be_bytes w64 head.bound)
+head_bytes head = magic ++ (to_be_bytes w32 head.tenants ++ (to_be_bytes w32 head.work ++ to_be_bytes w32 head.bound))
 
 abbrev pub contents_of : List (List Entry) → List (List ℕ)
 contents_of [] = []

@@ -1,5 +1,6 @@
 -- Promise: which steps of a tenant need no record, and what it is made of without them.
 use Rattle.std.specs.Prelude.{◌≡◌, ℕ, zero, suc, ◌≤◌, Bool, true, false, not, List, [], ◌∷◌, map, filter, codes, cond, Option, Some, None, IsTrue}
+use Rattle.sb_tenant.specs.declared.bound.Bound.{Bound}
 use Rattle.sb_value.specs.declared.lock.LockMode.{LockMode}
 use Rattle.sb_value.specs.declared.refusal.Refusal.TheVariants.{NoMemory}
 use Rattle.sb_syntax.specs.Text.{command_of}
@@ -50,7 +51,7 @@ pub record HasNoMore (one other : State) : Type 0 where
   pub locks : (s t : ℕ) (m : LockMode) → IsTrue (one.locks s t m) → IsTrue (other.locks s t m)
   pub steps : one.steps ≤ other.steps
 
-module _ (tenant bound : ℕ) where
+module _ (tenant : ℕ) (bound : Bound) where
   -- a step that needs no record changes nothing but locks
   abbrev pub NeedlessChangeNothing : Type 0
   NeedlessChangeNothing =

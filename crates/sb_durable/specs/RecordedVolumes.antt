@@ -1,5 +1,6 @@
 -- Promise: what is recorded of the volumes of a tenant, where a renewal is recorded as its whole opening.
 use Rattle.std.specs.Prelude.{◌≡◌, ◌⊎◌, ℕ, ◌+◌, ◌<◌, ◌≤◌, ◌==◌, if◌then◌else◌, nat_lt, Bool, true, false, List, [], ◌∷◌, ◌++◌, Some, length, take, drop, slice_get, slice_set}
+use Rattle.sb_tenant.specs.declared.bound.Bound.{Bound}
 use Rattle.sb_durable.specs.Records.{Entry as Record}
 use Rattle.sb_durable.specs.declared.recorded_reach.RecordedReach.{RecordedReach}
 use Rattle.sb_durable.specs.Recording.{Part, AreOf, first_reach, reach_of}
@@ -57,7 +58,7 @@ IsAmong own (v ∷ life) = (own ≡ v) ⊎ IsAmong own life
 
 -- ---- laws
 
-module _ (bound t : ℕ) where
+module _ (bound : Bound) (t : ℕ) where
   -- Where the volume that is recorded last is turned to, the records make the tenant as it stood there. What was recorded before it counts no more.
   abbrev pub PartsMakeTheVolume : Type 0
   PartsMakeTheVolume =

@@ -1,5 +1,6 @@
 -- Promise: what the steps of trails are recorded as, and what is recorded of them.
 use Rattle.std.specs.Prelude.{◌≡◌, ◌⊎◌, ℕ, ◌+◌, ◌^◌, ◌<◌, ◌≤◌, Bool, true, false, List, [], ◌∷◌, ◌++◌, Some, length, map, take, drop, slice_get, slice_set, codes, cond, Contains}
+use Rattle.sb_tenant.specs.declared.bound.Bound.{Bound}
 use Rattle.sb_durable.specs.Records.{Entry as Record}
 use Rattle.sb_durable.specs.declared.recorded_reach.RecordedReach.{RecordedReach}
 use Rattle.sb_tenant.specs.Limits.{session_count}
@@ -32,7 +33,7 @@ abbrev pub renewals_of : ℕ → Bool → List Record
 renewals_of tenant false = []
 renewals_of tenant true = renewal_of tenant ∷ []
 
-module _ (tenant bound : ℕ) where
+module _ (tenant : ℕ) (bound : Bound) where
   -- The lines that a legal trail is recorded as make its state again.
   abbrev pub RecordsMakeTheState : Type 0
   RecordsMakeTheState =

@@ -1,6 +1,7 @@
 -- Promise: a tenant after a restart, and a journal that tells what the tenants of a cell are.
 use Rattle.std.specs.Prelude.{◌≡◌, ℕ, ◌==◌, ◌&&◌, if◌then◌else◌, List, map, filter, filter_map, codes, Option, Some, None, IsTrue, []}
 use Rattle.std.specs.List.{AllByRecursion}
+use Rattle.sb_tenant.specs.declared.bound.Bound.{Bound}
 use Rattle.sb_value.specs.Locks.{sessions}
 use Rattle.sqlite_disk.specs.declared.Disk.{Ghosts}
 use Rattle.sb_durable.specs.Journal.{Has}
@@ -24,7 +25,7 @@ own_records t records = filter_map (own_record t) records
 abbrev pub ends : State → List (ℕ × List ℕ)
 ends state = map (λ s. (s, codes "end")) (filter (λ s. is_open (session_at state s)) sessions)
 
-module _ (bound t : ℕ) where
+module _ (bound : Bound) (t : ℕ) where
   -- the tenant as its records make it, one after another
   abbrev pub made_of : List Record → State
   made_of records = state_after t bound opening (own_records t records)

@@ -1,6 +1,7 @@
 -- Promise: what the files of a folder keep of a journal, and what a restart makes of it.
 use Rattle.std.specs.Prelude.{◌≡◌, ℕ, List, ◌++◌, ◌∷◌, IsTrue}
 use Rattle.std.specs.Int.{w32, w64, to_be_bytes}
+use Rattle.sb_tenant.specs.declared.bound.Bound.{Bound}
 use Rattle.sb_durable.specs.Journal.{contents_of, all_of}
 use Rattle.sb_durable.specs.Records.{Entry as Record}
 use Rattle.sb_durable.specs.Restart.{ends}
@@ -11,9 +12,9 @@ use Rattle.sb_tenant.specs.State.{State}
 use Rattle.sb_tenant.specs.Trail.{state_after}
 use Rattle.sb_cell.specs.Tenants.{Cell, hosts, states}
 
--- four bytes of tenants and eight of the bound, which each segment has as its settings
+-- four bytes of tenants, four of the budget and four of the limit of considerations, which each segment has as its settings
 abbrev pub settings_of : Head → List ℕ
-settings_of head = to_be_bytes w32 head.tenants ++ to_be_bytes w64 head.bound
+settings_of head = to_be_bytes w32 head.tenants ++ (to_be_bytes w32 head.work ++ to_be_bytes w32 head.bound)
 
 -- The files of a folder, in the order of their numbers, have these settings and these records, in batches.
 pub record KeepRow (head : Head) (records : List Record) (files : List (List ℕ)) : Type 0 where
@@ -26,7 +27,7 @@ abbrev pub Remembers : Cell → List Record → Type 0
 Remembers cell records = (t : ℕ) → IsTrue (hosts cell t) → made_of cell.bound t records ≡ states cell t
 
 -- a tenant after a restart: as its records make it, with no session open any more
-abbrev pub restarted : ℕ → ℕ → List Record → State
+abbrev pub restarted : Bound → ℕ → List Record → State
 restarted bound t records = state_after t bound (made_of bound t records) (ends (made_of bound t records))
 
 -- each tenant of the cell is as a restart leaves it

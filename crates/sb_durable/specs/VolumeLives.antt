@@ -1,12 +1,13 @@
 -- Promise: what is to be recorded of a tenant's whole life, volume by volume, and what it makes.
 use Rattle.std.specs.Prelude.{◌≡◌, ℕ, List, [], ◌∷◌, ◌++◌}
+use Rattle.sb_tenant.specs.declared.bound.Bound.{Bound}
 use Rattle.sb_durable.specs.Records.{Entry as Record}
 use Rattle.sb_durable.specs.RecordedLives.{IsLife, last_of, steps_in}
 use Rattle.sb_durable.specs.VolumeRecords.{made_of, renewal_records}
 use Rattle.sb_tenant.specs.Tenant.{Tenant}
 use Rattle.sb_tenant.specs.Trail.{IsTrail, state_of}
 
-module _ (bound t : ℕ) where
+module _ (bound : Bound) (t : ℕ) where
   -- each is a volume of the tenant, with a legal trail
   abbrev pub AreVolumes : List Tenant → Type 0
   AreVolumes [] = Unit {0}

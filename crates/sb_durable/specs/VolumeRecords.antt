@@ -1,6 +1,7 @@
 -- Promise: what the records of a tenant make of it, where some of them are of a volume that takes the place of the one before.
 use Rattle.std.specs.Prelude.{◌≡◌, ◌⊎◌, ℕ, ◌+◌, ◌-◌, ◌==◌, if◌then◌else◌, List, [], ◌∷◌, ◌++◌, map, filter_map, take, Option, Some, None, option_map, unwrap_or, IsTrue, Bool}
 use Rattle.std.specs.List.{AllByRecursion}
+use Rattle.sb_tenant.specs.declared.bound.Bound.{Bound}
 use Rattle.sb_durable.specs.Records.{Entry as Record}
 use Rattle.sb_durable.specs.Recording.{played}
 use Rattle.sb_durable.specs.Restart as restart
@@ -61,7 +62,7 @@ pub record IsDraft (t : ℕ) (records : List Record) : Type 0 where
   pub script : List (ℕ × List ℕ)
   pub whole : own_operations t records ≡ begins ∷ drafted script
 
-module _ (bound t : ℕ) where
+module _ (bound : Bound) (t : ℕ) where
   -- ---- what records make
 
   abbrev pub after_step : State → ℕ → List ℕ → State
@@ -107,7 +108,7 @@ IsOfNoUse t older newer = (own_operations t older ≡ []) ⊎ HasVolume t newer
 -- segments with records that no tenant needs can go
 abbrev pub OldSegmentsCanGo : Type 0
 OldSegmentsCanGo =
-    (bound : ℕ) (hosts : ℕ → Bool) (older newer : List Record) → ((t : ℕ) → IsTrue (hosts t) → IsOfNoUse t older newer)
+    (bound : Bound) (hosts : ℕ → Bool) (older newer : List Record) → ((t : ℕ) → IsTrue (hosts t) → IsOfNoUse t older newer)
     → (t : ℕ) → IsTrue (hosts t) → made_of bound t (older ++ newer) ≡ made_of bound t newer
 
 -- ---- what a renewal is recorded as

@@ -17,6 +17,7 @@ use crate::{
 };
 use sb_backup::{NotedScript, Script, ScriptNotes, noted_of, undumped};
 use sb_host::{Host, Naming, Opened, Renewing};
+use sb_tenant::Bound;
 use sb_wire::{LINE_LIMIT, StreamError};
 use sb_words::{CompactWords, Log};
 use std::alloc::Global;
@@ -39,7 +40,11 @@ pub fn compact<T: Wait + Clock + Alloc + Clone + Drop + Files<File = File>, O: L
 ) -> Result<(), JournalFault>
     requires { AreRun words.run }
 {
-    match Opened::new(alloc, words.run.tenants, 1, words.run.bound) {
+    let bound = Bound {
+        considerations: words.run.bound,
+        work: words.run.work,
+    };
+    match Opened::new(alloc, words.run.tenants, 1, bound) {
         Ok(opened) => compact_host::<Brand, T, O>(rt, alloc, log, opened, words),
         Err(_) => Err(OUT_OF_MEMORY),
     }
@@ -59,15 +64,16 @@ fn compact_host<N: Naming, T: Wait + Clock + Alloc + Clone + Drop + Files<File =
     let Ok(host) = Host::<N>::new(alloc, opened) else {
         return Err(OUT_OF_MEMORY);
     };
+    let bound = Bound {
+        considerations: words.run.bound,
+        work: words.run.work,
+    };
     let compaction = Compaction {
         rt,
         alloc,
         host: &host,
-        bound: words.run.bound,
-        head: Head {
-            tenants: words.run.tenants,
-            bound: u64::from(words.run.bound),
-        },
+        bound,
+        head: Head::new(words.run.tenants, bound),
         log,
     };
     match compaction.play(words.old) {
@@ -82,10 +88,10 @@ struct Compaction<'c, H, T, O> {
     rt: &'c T,
     alloc: Global,
     host: H,
-    bound: u32,
+    bound: Bound,
     head: Head,
     log: &'c O,
-    ghost few: { bound ≤ 1000 },
+    ghost few: { bound.considerations ≤ 1000 },
 }
 
 impl<

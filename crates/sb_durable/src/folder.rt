@@ -6,8 +6,8 @@ ghost use Rattle.sb_durable.specs.Folders.{FollowOn};
 use crate::file::File;
 use crate::replay::PlayFault;
 use crate::segment::{PREFIX, RowError, SegmentError, check_row, number_in};
-use crate::sync_folder;
 use crate::system_file::{Syncing, SystemFile};
+use crate::{Head, sync_folder};
 use sqlite_disk::{Modelled, Start};
 use std::alloc::{AllocError, AllocFailed, Global};
 use std::fs::{Files, OpenOptions, TryLockError};
@@ -47,11 +47,10 @@ pub enum FolderError {
         why: RowError,
     },
     /// It is the journal of another server.
-    #[error("journal.{number:06} is of {tenants} tenants and bound {bound}")]
+    #[error("journal.{number:06} is of {settings}")]
     OtherSettings {
         number: u64,
-        tenants: u32,
-        bound: u64,
+        settings: Head,
     },
     /// Its head has other settings than those of a journal.
     #[error("journal.{0:06} has no settings of a journal")]

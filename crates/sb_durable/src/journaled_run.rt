@@ -9,6 +9,7 @@ ghost use Rattle.sb_durable.specs.declared.journal_fault.JournalFault.TheVariant
 ghost use Rattle.sb_wire.specs.declared.fault.StreamError.{StreamError as ItsStreamError};
 ghost use Rattle.sb_backup.specs.Outputs.{WritesOf};
 ghost use Rattle.sb_words.specs.Within.{AreRun};
+ghost use Rattle.sb_backup.specs.Bounds.{bound_of};
 
 use crate::flusher::Flusher;
 use crate::journal_fault::JournalFault;
@@ -16,6 +17,7 @@ use crate::log_lines::{tell_no_journal, tell_not_recorded};
 use crate::playing::{Playing, syncing_of};
 use crate::{Disk, Head, PlayError, PlayFault, Recording, open_path, restart, run_recorded};
 use sb_cell::{Cell, ample_buckets};
+use sb_tenant::Bound;
 use sb_wire::{Sink, Source, StreamError};
 use sb_words::{JournalWords, Log, Run, Syncs};
 use std::alloc::Global;
@@ -42,19 +44,20 @@ pub fn run_journaled<T: Wait + Clock + Files<File = File>, O: Log, R: Source, W:
 ) -> Result<(), JournalFault>
     requires { AreRun asked.run }
     ensures ok { OnOk result (WritesOf R.remaining W.contents reader.old writer.old writer.new
-        (AnswersJournaled asked.entry.run.tenants asked.entry.run.bound)) }
+        (AnswersJournaled asked.entry.run.tenants (bound_of asked.entry.run))) }
     ensures err { IfErr result (EndsJournaled R.fails R.remaining W.contents reader.old reader.new
-        writer.old writer.new asked.entry.run.tenants asked.entry.run.bound) }
+        writer.old writer.new asked.entry.run.tenants (bound_of asked.entry.run)) }
 {
     let JournaledRun {
         run,
         journal: words,
     } = asked;
     let path = words.path;
-    let head = Head {
-        tenants: run.tenants,
-        bound: u64::from(run.bound),
+    let bound = Bound {
+        considerations: run.bound,
+        work: run.work,
     };
+    let head = Head::new(run.tenants, bound);
     match open_path(rt, alloc, path, syncing_of(words.syncs), head) {
         Ok(journal) => {
             let mut recording = Recording::new(journal);
@@ -90,10 +93,10 @@ fn run_on<T: Wait + Clock, O: Log, D: Disk, R: Source, W: Sink>(
     requires run { AreRun asked }
     requires goes { is_some recording.old.fault ≡ false }
     ensures runs { IfOk result (RunsJournaled R.fails R.remaining W.contents reader.old reader.new
-        writer.old writer.new D.Disk asked.tenants asked.bound recording.old recording.new) }
+        writer.old writer.new D.Disk asked.tenants (bound_of asked) recording.old recording.new) }
     ensures answers { IfOk result (λ ended. OnOk ended (is_some recording.new.fault ≡ false
         → WritesOf R.remaining W.contents reader.old writer.old writer.new
-        (AnswersJournaled asked.tenants asked.bound))) }
+        (AnswersJournaled asked.tenants (bound_of asked)))) }
     ensures err { OnErr result ((reader.new ≡ reader.old) × (writer.new ≡ writer.old)) }
 {
     match restarted_cell(rt, alloc, asked, recording, playing) {
@@ -112,14 +115,18 @@ fn restarted_cell<T: Wait + Clock, O: Log, D: Disk>(
 ) -> Result<Cell, PlayError>
     requires run { AreRun asked }
     requires goes { is_some recording.old.fault ≡ false }
-    ensures cell { IfOk result (λ cell. (records : List Entry) × IsBegun asked.tenants asked.bound records cell
+    ensures cell { IfOk result (λ cell. (records : List Entry) × IsBegun asked.tenants (bound_of asked) records cell
         × (IsTrue (D.Disk.is_clean (disk_of recording.new.journal)) → (head : ItsHead) (there : List Entry)
         → Has D.Disk.seen D.Disk.may_leave recording.old.journal head there [] → AreRecords there
         → (records ≡ there) × Tells D.Disk.seen D.Disk.may_leave recording.new.journal head cell)) }
     ensures goes { is_some recording.new.fault ≡ false }
 {
     let buckets = ample_buckets(asked.tenants);
-    let Ok(mut cell) = Cell::with_buckets(alloc, 0, 1, asked.tenants, asked.bound, buckets) else {
+    let bound = Bound {
+        considerations: asked.bound,
+        work: asked.work,
+    };
+    let Ok(mut cell) = Cell::with_buckets(alloc, 0, 1, asked.tenants, bound, buckets) else {
         return Err(PlayError {
             record: 1,
             why: PlayFault::NoMemory,

@@ -1,5 +1,6 @@
 //! What holds of the definitions alone: each law is the contract of a function that does nothing.
 ghost use Rattle.std.specs.Prelude.{ℕ};
+ghost use Rattle.sb_tenant.specs.declared.bound.Bound.{Bound};
 ghost use Rattle.sb_durable.specs.RecordedLives.{RecordsAreTheSteps};
 ghost use Rattle.sb_durable.specs.Recording.{RecordsMakeTheState};
 ghost use Rattle.sb_durable.specs.RowJournal.{FoldersCanLoseTheirOldest, RestartsAreTheSame};
@@ -8,7 +9,7 @@ ghost use Rattle.sb_durable.specs.VolumeRecords.{DraftsAreNothing, OldSegmentsCa
 
 /// The lines that a legal trail is recorded as make its state again, from the opening state on.
 pub fn records_make_the_state()
-    ensures { (tenant bound : ℕ) → RecordsMakeTheState tenant bound }
+    ensures { (tenant : ℕ) (bound : Bound) → RecordsMakeTheState tenant bound }
 {}
 
 /// What is recorded of a tenant are the steps that its sessions made in all volumes of its life, in order, with a renewal
@@ -19,22 +20,22 @@ pub fn records_are_the_steps()
 
 /// Where a volume is whole in the newer records, a tenant's older ones are of no use.
 pub fn older_are_of_no_use()
-    ensures { (bound t : ℕ) → OlderAreOfNoUse bound t }
+    ensures { (bound : Bound) (t : ℕ) → OlderAreOfNoUse bound t }
 {}
 
 /// A volume that is begun and not turned to makes nothing.
 pub fn drafts_are_nothing()
-    ensures { (bound t : ℕ) → DraftsAreNothing bound t }
+    ensures { (bound : Bound) (t : ℕ) → DraftsAreNothing bound t }
 {}
 
 /// Behind a whole volume a tenant is what its script makes.
 pub fn volumes_stand()
-    ensures { (bound t : ℕ) → VolumesStand bound t }
+    ensures { (bound : Bound) (t : ℕ) → VolumesStand bound t }
 {}
 
 /// Records of sessions alone make what they make where there are no volumes.
 pub fn sessions_alone()
-    ensures { (bound t : ℕ) → SessionsAlone bound t }
+    ensures { (bound : Bound) (t : ℕ) → SessionsAlone bound t }
 {}
 
 /// Segments can go whose records no tenant needs.
@@ -64,5 +65,5 @@ pub fn restarts_are_the_same()
 
 /// What is to be recorded of a tenant's life makes it as its last volume leaves it.
 pub fn lives_are_made()
-    ensures { (bound t : ℕ) → LivesAreMade bound t }
+    ensures { (bound : Bound) (t : ℕ) → LivesAreMade bound t }
 {}

@@ -22,6 +22,8 @@ pub enum BeginError {
     OtherMeaning,
     #[error("it has another number of tenants")]
     OtherTenants,
+    #[error("it has another budget of a step")]
+    OtherWork,
     #[error("it has another bound on considerations")]
     OtherBound,
 }
@@ -104,6 +106,9 @@ fn compare(first: &[u8], ours: &[u8]) -> Result<(), BeginError>
     if first[8..12] != ours[8..12] {
         return Err(BeginError::OtherTenants);
     }
+    if first[12..16] != ours[12..16] {
+        return Err(BeginError::OtherWork);
+    }
     Err(BeginError::OtherBound)
 }
 
@@ -113,6 +118,7 @@ fn bytes_of_head(alloc: Global, head: Head) -> Result<Vec<u8>, AllocError>
     let mut bytes = Vec::with_capacity(alloc, 20)?;
     bytes.extend_from_slice(b"FILGJRN1")?;
     bytes.extend_from_slice(&head.tenants.to_be_bytes())?;
+    bytes.extend_from_slice(&head.work.to_be_bytes())?;
     bytes.extend_from_slice(&head.bound.to_be_bytes())?;
     Ok(bytes)
 }

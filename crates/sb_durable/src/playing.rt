@@ -5,6 +5,7 @@ use crate::journal_fault::JournalFault;
 use crate::log_lines::{tell_no_journal, tell_played};
 use crate::{File, Head, Journal, Played, Progress, Syncing, Wary, open_path, play};
 use sb_host::Renewing;
+use sb_tenant::Bound;
 use sb_words::{Log, Syncs};
 use std::alloc::Global;
 use std::fs;
@@ -27,10 +28,17 @@ pub fn syncing_of(syncs: Syncs) -> Syncing
 
 /// The bound of a journal's tenants. None has a higher one than 1,000, whatever a head says: where it does, no tenant is
 /// renewed.
-pub(crate) fn bound_of(head: Head) -> u32
-    ensures { result ≤ 1000 }
+pub(crate) fn bound_of(head: Head) -> Bound
+    ensures { result.considerations ≤ 1000 }
 {
-    head.bound.min(1000) as u32
+    let work = match head.work {
+        0 => None,
+        work => Some(work),
+    };
+    Bound {
+        considerations: head.bound.min(1000),
+        work,
+    }
 }
 
 /// Opens the journal at this path and replays it on a host. Error: CannotOpen, and the reason

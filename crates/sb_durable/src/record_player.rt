@@ -17,7 +17,7 @@ use crate::{Record, RecordedReach};
 use sb_backup::{Unrenewed, renew_tenant};
 use sb_desk::{CallError, Calling, NoGate, Stub};
 use sb_host::Renewing;
-use sb_tenant::{Answer, OPEN, Reply};
+use sb_tenant::{Answer, Bound, OPEN, Reply};
 use sb_value::{Refusal, SESSION_LIMIT};
 use std::alloc::{AllocError, Global};
 use std::mem;
@@ -28,15 +28,15 @@ use std::sync::Wait;
 pub(crate) struct Player<H: Renewing> {
     alloc: Global,
     host: H,
-    /// The most rules that are considered at one assertion point.
-    bound: u32,
+    /// The bound of each step.
+    bound: Bound,
     /// Eight for each tenant.
     sessions: Vec<Option<H::Session>>,
     /// What the closed sessions of each tenant have left of its newest trail.
     stubs: Vec<Vec<Stub>>,
     /// How far each tenant is played.
     reaches: Vec<RecordedReach>,
-    ghost few: { bound ≤ 1000 },
+    ghost few: { bound.considerations ≤ 1000 },
     ghost eight: { length sessions.items ≡ 8 * length reaches.items },
     ghost each: { length stubs.items ≡ length reaches.items },
 }
@@ -53,8 +53,8 @@ struct Called<S> {
 }
 
 impl<H: Renewing> Player<H> {
-    pub(crate) fn new(alloc: Global, host: H, bound: u32) -> Result<Player<H>, AllocError>
-        requires { bound ≤ 1000 }
+    pub(crate) fn new(alloc: Global, host: H, bound: Bound) -> Result<Player<H>, AllocError>
+        requires { bound.considerations ≤ 1000 }
         ensures { IfOk result (λ player. playing_of H.Session.seen player.sessions.items player.stubs.items player.reaches.items
             ≡ none_open (H.tenants host)) }
     {
@@ -309,10 +309,10 @@ fn renew_by<H: Renewing, T: Wait>(
     alloc: Global,
     host: H,
     tenant: u32,
-    bound: u32,
+    bound: Bound,
     stubs: &mut Vec<Stub>,
 ) -> Result<u64, PlayFault>
-    requires { bound ≤ 1000 }
+    requires { bound.considerations ≤ 1000 }
     ensures renews { IfOk result (λ count. Renewed tenant stubs.old.items stubs.new.items × (count ≡ receipts_in stubs.new.items)) }
     ensures refused { IfErr result IsUnrenewed }
 {

@@ -12,6 +12,7 @@ use crate::{Disk, Journal, JournalError, Record, RecordedReach, first_record};
 use sb_backup::RenewalFault;
 use sb_desk::{AttachError, Stub};
 use sb_host::Renewing;
+use sb_tenant::Bound;
 use std::alloc::Global;
 use std::sync::Wait;
 use std::{fmt, str};
@@ -88,11 +89,11 @@ pub fn play<T: Wait, H: Renewing, D: Disk, P: Progress>(
     rt: &T,
     alloc: Global,
     host: H,
-    bound: u32,
+    bound: Bound,
     journal: &mut Journal<D>,
     progress: &mut P,
 ) -> Result<Played, PlayError>
-    requires { bound ≤ 1000 }
+    requires { bound.considerations ≤ 1000 }
     ensures plays { IfOk result (λ left. (played : List Entry)
         × LeavesPlayed (H.tenants host) played left.stubs.items left.recorded.items × (left.records ≡ length played)
         × (IsTrue (D.Disk.is_clean (disk_of journal.new)) → (head : Head) (records : List Entry)

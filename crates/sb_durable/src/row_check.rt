@@ -30,8 +30,8 @@ impl fmt::Display for JournalSummary {
     fn fmt<W: fmt::Write>(&self, f: &mut fmt::Formatter<W>) -> fmt::Result {
         write!(
             f,
-            "segments {} to {}, {} records, {} tenants, bound {}",
-            self.oldest, self.newest, self.records, self.head.tenants, self.head.bound
+            "segments {} to {}, {} records, {}",
+            self.oldest, self.newest, self.records, self.head
         )?;
         match self.has_begun {
             true => Ok(()),
@@ -102,12 +102,13 @@ pub(crate) fn head_of_file<D: Disk + Drop, F: SegmentFiles<D>>(
 pub(crate) fn head_in(settings: &[u8]) -> Option<Head>
     ensures { IfSome result (λ head. settings.now ≡ settings_of head) }
 {
-    let [t0, t1, t2, t3, b0, b1, b2, b3, b4, b5, b6, b7] = settings else {
+    let [t0, t1, t2, t3, w0, w1, w2, w3, b0, b1, b2, b3] = settings else {
         return None;
     };
     Some(Head {
         tenants: u32::from_be_bytes([*t0, *t1, *t2, *t3]),
-        bound: u64::from_be_bytes([*b0, *b1, *b2, *b3, *b4, *b5, *b6, *b7]),
+        work: u32::from_be_bytes([*w0, *w1, *w2, *w3]),
+        bound: u32::from_be_bytes([*b0, *b1, *b2, *b3]),
     })
 }
 

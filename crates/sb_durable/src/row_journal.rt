@@ -245,11 +245,13 @@ impl<D: Disk> RowJournal<D> {
     }
 }
 
-/// The settings of a journal, which each of its segments has: four bytes of tenants, and eight of the bound.
+/// The settings of a journal, which each of its segments has: four bytes of tenants, four of
+/// the budget and four of the limit of considerations.
 pub(crate) fn settings_bytes(head: Head) -> [u8; 12]
     ensures { result ≡ settings_of head }
 {
     let [t0, t1, t2, t3] = head.tenants.to_be_bytes();
-    let [b0, b1, b2, b3, b4, b5, b6, b7] = head.bound.to_be_bytes();
-    [t0, t1, t2, t3, b0, b1, b2, b3, b4, b5, b6, b7]
+    let [w0, w1, w2, w3] = head.work.to_be_bytes();
+    let [b0, b1, b2, b3] = head.bound.to_be_bytes();
+    [t0, t1, t2, t3, w0, w1, w2, w3, b0, b1, b2, b3]
 }

@@ -123,11 +123,7 @@ fn other_settings<D: Disk + Drop, F: SegmentFiles<D>>(
     number: u64,
 ) -> FolderError {
     match head_of_file(alloc, files, number) {
-        Ok(found) => FolderError::OtherSettings {
-            number,
-            tenants: found.tenants,
-            bound: found.bound,
-        },
+        Ok(settings) => FolderError::OtherSettings { number, settings },
         Err(error) => error,
     }
 }

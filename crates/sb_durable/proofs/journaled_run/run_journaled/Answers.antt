@@ -1,5 +1,6 @@
 use Rattle.std.proofs.Common.{inl, inr, refl}
 use Rattle.std.proofs.lemmas.Result.{on_ok_weaker}
+use Rattle.sb_backup.specs.Bounds.{bound_of}
 use Rattle.sb_durable.proofs.Journals.{ends_by, stops_behind, went_well}
 use Rattle.sb_durable.proofs.journaled_run.run_journaled.Goals as goal
 
@@ -9,10 +10,10 @@ returns-in-true-clause-ok g c =
 
 pub returns-in-true-clause-err : goal.returns-in-true-clause-err
 returns-in-true-clause-err g c =
-    ends_by g.R.Source.fails g.R.Read.remaining g.W.Write.contents c.args.reader.now c.run_on.new.reader c.args.writer.now c.run_on.new.writer _ c.args.asked.run.tenants c.args.asked.run.bound _ _
+    ends_by g.R.Source.fails g.R.Read.remaining g.W.Write.contents c.args.reader.now c.run_on.new.reader c.args.writer.now c.run_on.new.writer _ c.args.asked.run.tenants (bound_of c.args.asked.run) _ _
     c.in-Ok-run_on.ended c.end_by.result c.in-Ok-run_on.ensures.runs c.end_by.ensures.err
 
 pub returns-in-Ok-run_on-clause-err : goal.returns-in-Ok-run_on-clause-err
 returns-in-Ok-run_on-clause-err g c =
-    stops_behind g.R.Source.fails g.R.Read.remaining g.W.Write.contents c.args.reader.now c.run_on.new.reader c.args.writer.now c.run_on.new.writer _ c.args.asked.run.tenants c.args.asked.run.bound _ _
+    stops_behind g.R.Source.fails g.R.Read.remaining g.W.Write.contents c.args.reader.now c.run_on.new.reader c.args.writer.now c.run_on.new.writer _ c.args.asked.run.tenants (bound_of c.args.asked.run) _ _
     c.in-Ok-run_on.ended _ c.in-Ok-run_on.ensures.runs (inl refl)

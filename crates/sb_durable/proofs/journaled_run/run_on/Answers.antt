@@ -1,4 +1,5 @@
 use Rattle.std.proofs.lemmas.Result.{on_ok_weaker}
+use Rattle.sb_backup.specs.Bounds.{bound_of}
 use Rattle.sb_durable.proofs.Journals.{answers_journaled}
 use Rattle.sb_durable.proofs.journaled_run.run_on.Goals as goal
 
@@ -19,4 +20,4 @@ pub returns-in-Ok-clause-answers : goal.returns-in-Ok-clause-answers
 returns-in-Ok-clause-answers g c =
     let begun = c.in-Ok.ensures.cell in
     on_ok_weaker c.run_recorded.result
-    (λ answers going. answers_journaled c.args.asked.tenants c.args.asked.bound begun.0 c.in-Ok.cell c.run_recorded.new.cell _ _ _ begun.1 (answers going)) c.run_recorded.ensures.ok
+    (λ answers going. answers_journaled c.args.asked.tenants (bound_of c.args.asked) begun.0 c.in-Ok.cell c.run_recorded.new.cell _ _ _ begun.1 (answers going)) c.run_recorded.ensures.ok
