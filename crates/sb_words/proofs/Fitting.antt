@@ -9,7 +9,7 @@ use Rattle.sb_words.specs.Words.{AsksFor, Findings, HasMisplaced, HasUnfit, IsAs
 use Rattle.sb_words.specs.declared.words.Asked.{Asked}
 use Rattle.sb_words.specs.declared.words.Asked.TheVariants.{For, Help, Version, Refused, NotAllowed, Misplaced}
 use Rattle.sb_words.specs.declared.argument.Argument.{Argument}
-use Rattle.sb_words.specs.declared.argument.Argument.TheVariants.{Old, New, Action, Folder, Tenant, Load, DumpTo, Into, Journal, Sync, Keys, Status, Tenants, Bound, Cells, Workers, Port, Connections, Idle, IdleTransaction, FirstTenant, TenantMemory, Segment, Log, Slow, Renew, UntilInputEnds}
+use Rattle.sb_words.specs.declared.argument.Argument.TheVariants.{Old, New, Action, Folder, Tenant, Load, DumpTo, Into, Journal, Sync, Keys, Status, Tenants, Bound, StepWork, Cells, Workers, Port, Connections, Idle, IdleTransaction, FirstTenant, TenantMemory, Segment, Log, Slow, Renew, UntilInputEnds}
 use Rattle.sb_words.specs.declared.argument.Unfit.{Unfit}
 use Rattle.sb_words.specs.declared.argument.Verb.{Verb}
 use Rattle.sb_words.specs.declared.argument.Verb.TheVariants.{Run}
@@ -59,27 +59,28 @@ all_allowed rows a Action = a.1.1.0
 all_allowed rows a Folder = a.1.1.1.0
 all_allowed rows a Tenants = a.1.1.1.1.0
 all_allowed rows a Bound = a.1.1.1.1.1.0
-all_allowed rows a Tenant = a.1.1.1.1.1.1.0
-all_allowed rows a Into = a.1.1.1.1.1.1.1.0
-all_allowed rows a Cells = a.1.1.1.1.1.1.1.1.0
-all_allowed rows a Workers = a.1.1.1.1.1.1.1.1.1.0
-all_allowed rows a Port = a.1.1.1.1.1.1.1.1.1.1.0
-all_allowed rows a Connections = a.1.1.1.1.1.1.1.1.1.1.1.0
-all_allowed rows a Idle = a.1.1.1.1.1.1.1.1.1.1.1.1.0
-all_allowed rows a IdleTransaction = a.1.1.1.1.1.1.1.1.1.1.1.1.1.0
-all_allowed rows a FirstTenant = a.1.1.1.1.1.1.1.1.1.1.1.1.1.1.0
-all_allowed rows a TenantMemory = a.1.1.1.1.1.1.1.1.1.1.1.1.1.1.1.0
-all_allowed rows a Load = a.1.1.1.1.1.1.1.1.1.1.1.1.1.1.1.1.0
-all_allowed rows a DumpTo = a.1.1.1.1.1.1.1.1.1.1.1.1.1.1.1.1.1.0
-all_allowed rows a Journal = a.1.1.1.1.1.1.1.1.1.1.1.1.1.1.1.1.1.1.0
-all_allowed rows a Sync = a.1.1.1.1.1.1.1.1.1.1.1.1.1.1.1.1.1.1.1.0
-all_allowed rows a Segment = a.1.1.1.1.1.1.1.1.1.1.1.1.1.1.1.1.1.1.1.1.0
-all_allowed rows a Renew = a.1.1.1.1.1.1.1.1.1.1.1.1.1.1.1.1.1.1.1.1.1.0
-all_allowed rows a Keys = a.1.1.1.1.1.1.1.1.1.1.1.1.1.1.1.1.1.1.1.1.1.1.0
-all_allowed rows a Status = a.1.1.1.1.1.1.1.1.1.1.1.1.1.1.1.1.1.1.1.1.1.1.1.0
-all_allowed rows a Log = a.1.1.1.1.1.1.1.1.1.1.1.1.1.1.1.1.1.1.1.1.1.1.1.1.0
-all_allowed rows a Slow = a.1.1.1.1.1.1.1.1.1.1.1.1.1.1.1.1.1.1.1.1.1.1.1.1.1.0
-all_allowed rows a UntilInputEnds = a.1.1.1.1.1.1.1.1.1.1.1.1.1.1.1.1.1.1.1.1.1.1.1.1.1.1.0
+all_allowed rows a StepWork = a.1.1.1.1.1.1.0
+all_allowed rows a Tenant = a.1.1.1.1.1.1.1.0
+all_allowed rows a Into = a.1.1.1.1.1.1.1.1.0
+all_allowed rows a Cells = a.1.1.1.1.1.1.1.1.1.0
+all_allowed rows a Workers = a.1.1.1.1.1.1.1.1.1.1.0
+all_allowed rows a Port = a.1.1.1.1.1.1.1.1.1.1.1.0
+all_allowed rows a Connections = a.1.1.1.1.1.1.1.1.1.1.1.1.0
+all_allowed rows a Idle = a.1.1.1.1.1.1.1.1.1.1.1.1.1.0
+all_allowed rows a IdleTransaction = a.1.1.1.1.1.1.1.1.1.1.1.1.1.1.0
+all_allowed rows a FirstTenant = a.1.1.1.1.1.1.1.1.1.1.1.1.1.1.1.0
+all_allowed rows a TenantMemory = a.1.1.1.1.1.1.1.1.1.1.1.1.1.1.1.1.0
+all_allowed rows a Load = a.1.1.1.1.1.1.1.1.1.1.1.1.1.1.1.1.1.0
+all_allowed rows a DumpTo = a.1.1.1.1.1.1.1.1.1.1.1.1.1.1.1.1.1.1.0
+all_allowed rows a Journal = a.1.1.1.1.1.1.1.1.1.1.1.1.1.1.1.1.1.1.1.0
+all_allowed rows a Sync = a.1.1.1.1.1.1.1.1.1.1.1.1.1.1.1.1.1.1.1.1.0
+all_allowed rows a Segment = a.1.1.1.1.1.1.1.1.1.1.1.1.1.1.1.1.1.1.1.1.1.0
+all_allowed rows a Renew = a.1.1.1.1.1.1.1.1.1.1.1.1.1.1.1.1.1.1.1.1.1.1.0
+all_allowed rows a Keys = a.1.1.1.1.1.1.1.1.1.1.1.1.1.1.1.1.1.1.1.1.1.1.1.0
+all_allowed rows a Status = a.1.1.1.1.1.1.1.1.1.1.1.1.1.1.1.1.1.1.1.1.1.1.1.1.0
+all_allowed rows a Log = a.1.1.1.1.1.1.1.1.1.1.1.1.1.1.1.1.1.1.1.1.1.1.1.1.1.0
+all_allowed rows a Slow = a.1.1.1.1.1.1.1.1.1.1.1.1.1.1.1.1.1.1.1.1.1.1.1.1.1.1.0
+all_allowed rows a UntilInputEnds = a.1.1.1.1.1.1.1.1.1.1.1.1.1.1.1.1.1.1.1.1.1.1.1.1.1.1.1.0
 
 pub first_of_all : (rows : List Row) (r : Option Unfit) → MatchOption r (AllFit rows parts) (λ u. IsFirstOf rows u parts)
     → MatchOption r (AreAllowed rows) (IsFirstUnfit rows)

@@ -25,7 +25,7 @@ all_fit rows [] none = tt
 all_fit rows (p ∷ ps) none = let each = both (is_none (text_at rows p)) (none_given rows ps) none in
     (λ text unfit. ungiven (text_at rows p) text each.0 unfit, all_fit rows ps each.1)
 
-pub no_word : (words : List Text) → length words ≤ 1 → AskFor words (run (record { tenants = 16; bound = 1000 }) fresh)
+pub no_word : (words : List Text) → length words ≤ 1 → AskFor words (run (record { tenants = 16; bound = 1000; work = None }) fresh)
 unfolding clap_on_literals
 no_word [] few = let rows = matches_of starhost [] in
     (refl, (verb.Run, rows, (tt, refl), (all_allowed rows (all_fit rows parts refl), refl)))

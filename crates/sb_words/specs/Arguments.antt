@@ -3,7 +3,7 @@ use Rattle.std.specs.Prelude.{ℕ, List, [], ◌∷◌, Option, Some, None, code
 use Rattle.clap.specs.Words.{Text}
 use Rattle.sb_words.specs.Meanings.{meaning_of}
 use Rattle.sb_words.specs.declared.argument.Argument.{Argument}
-use Rattle.sb_words.specs.declared.argument.Argument.TheVariants.{Old, New, Action, Folder, Tenant, Load, DumpTo, Into, Journal, Sync, Keys, Status, Tenants, Bound, Cells, Workers, Port, Connections, Idle, IdleTransaction, FirstTenant, TenantMemory, Segment, Log, Slow, Renew, UntilInputEnds}
+use Rattle.sb_words.specs.declared.argument.Argument.TheVariants.{Old, New, Action, Folder, Tenant, Load, DumpTo, Into, Journal, Sync, Keys, Status, Tenants, Bound, StepWork, Cells, Workers, Port, Connections, Idle, IdleTransaction, FirstTenant, TenantMemory, Segment, Log, Slow, Renew, UntilInputEnds}
 use Rattle.sb_words.specs.declared.argument.NumberRange.{NumberRange}
 use Rattle.sb_words.specs.declared.argument.Verb.{Verb}
 use Rattle.sb_words.specs.declared.argument.Verb.TheVariants.{Run, Serve, Replay, Parse, Dump, Compact, Key}
@@ -29,19 +29,19 @@ verb_of word = meaning_of word (map (λ v. (word_of v, v)) verbs)
 
 -- files first, then options, in the order in which they are looked at
 abbrev pub parts : List Argument
-parts = Old ∷ New ∷ Action ∷ Folder ∷ Tenants ∷ Bound ∷ Tenant ∷ Into ∷ Cells ∷ Workers ∷ Port ∷ Connections ∷ Idle ∷ IdleTransaction ∷ FirstTenant ∷ TenantMemory ∷ Load ∷ DumpTo
+parts = Old ∷ New ∷ Action ∷ Folder ∷ Tenants ∷ Bound ∷ StepWork ∷ Tenant ∷ Into ∷ Cells ∷ Workers ∷ Port ∷ Connections ∷ Idle ∷ IdleTransaction ∷ FirstTenant ∷ TenantMemory ∷ Load ∷ DumpTo
     ∷ Journal ∷ Sync ∷ Segment ∷ Renew ∷ Keys ∷ Status ∷ Log ∷ Slow ∷ UntilInputEnds ∷ []
 
 -- the parts that a command has
 abbrev pub parts_of : Verb → List Argument
-parts_of Run = Tenants ∷ Bound ∷ Load ∷ Journal ∷ Sync ∷ []
+parts_of Run = Tenants ∷ Bound ∷ StepWork ∷ Load ∷ Journal ∷ Sync ∷ []
 parts_of Serve =
-    Tenants ∷ Bound ∷ Cells ∷ Workers ∷ Port ∷ Connections ∷ Idle ∷ IdleTransaction ∷ FirstTenant ∷ TenantMemory ∷ Load ∷ DumpTo ∷ Journal ∷ Sync ∷ Segment ∷ Renew ∷ Keys
+    Tenants ∷ Bound ∷ StepWork ∷ Cells ∷ Workers ∷ Port ∷ Connections ∷ Idle ∷ IdleTransaction ∷ FirstTenant ∷ TenantMemory ∷ Load ∷ DumpTo ∷ Journal ∷ Sync ∷ Segment ∷ Renew ∷ Keys
     ∷ Status ∷ Log ∷ Slow ∷ UntilInputEnds ∷ []
-parts_of Replay = Tenants ∷ Bound ∷ Cells ∷ Workers ∷ []
+parts_of Replay = Tenants ∷ Bound ∷ StepWork ∷ Cells ∷ Workers ∷ []
 parts_of Parse = []
-parts_of Dump = Tenants ∷ Bound ∷ Tenant ∷ Into ∷ []
-parts_of Compact = Old ∷ New ∷ Tenants ∷ Bound ∷ []
+parts_of Dump = Tenants ∷ Bound ∷ StepWork ∷ Tenant ∷ Into ∷ []
+parts_of Compact = Old ∷ New ∷ Tenants ∷ Bound ∷ StepWork ∷ []
 parts_of verb.Journal = Action ∷ Folder ∷ []
 parts_of Key = []
 
@@ -60,6 +60,7 @@ name_of Keys = codes "keys"
 name_of Status = codes "status"
 name_of Tenants = codes "tenants"
 name_of Bound = codes "bound"
+name_of StepWork = codes "step-work"
 name_of Cells = codes "cells"
 name_of Workers = codes "workers"
 name_of Port = codes "port"
@@ -93,6 +94,7 @@ abbrev pub range_of : Argument → Option NumberRange
 range_of Tenant = range 0 255 0
 range_of Tenants = range 1 256 16
 range_of Bound = range 1 1000 1000
+range_of StepWork = range 1 4294967295 67108864
 range_of Cells = few
 range_of Workers = few
 range_of Port = ports

@@ -118,8 +118,12 @@ renew_by (Some word) usual = unwrap_or (renew_policy_of word) usual
 abbrev pub renew_in : List Row → RenewPolicy
 renew_in rows = renew_by (text_at rows part.Renew) (usual_policy (is_some (text_at rows part.Journal)))
 
+-- the budget of a step, if there is to be one
+abbrev pub work_in : List Row → Option ℕ
+work_in rows = option_map (λ text. number_in rows part.StepWork) (text_at rows part.StepWork)
+
 abbrev pub run_in : List Row → Run
-run_in rows = record { tenants = number_in rows part.Tenants; bound = number_in rows part.Bound }
+run_in rows = record { tenants = number_in rows part.Tenants; bound = number_in rows part.Bound; work = work_in rows }
 
 abbrev pub dumping_in : List Row → Dumping
 dumping_in rows = record { run = run_in rows; tenant = number_in rows part.Tenant }

@@ -3,7 +3,7 @@ use Rattle.std.specs.Prelude.{ℕ, List, ◌++◌, codes}
 use Rattle.clap.specs.Words.{Text}
 use Rattle.sb_words.specs.Arguments.{name_of}
 use Rattle.sb_words.specs.declared.argument.Argument.{Argument}
-use Rattle.sb_words.specs.declared.argument.Argument.TheVariants.{Old, New, Action, Folder, Tenant, Into, Journal, Sync, Status, Tenants, Bound, Cells, Workers, Port, Connections, Idle, IdleTransaction, FirstTenant, TenantMemory, Segment, Log, Slow, Renew, UntilInputEnds}
+use Rattle.sb_words.specs.declared.argument.Argument.TheVariants.{Old, New, Action, Folder, Tenant, Into, Journal, Sync, Status, Tenants, Bound, StepWork, Cells, Workers, Port, Connections, Idle, IdleTransaction, FirstTenant, TenantMemory, Segment, Log, Slow, Renew, UntilInputEnds}
 use Rattle.sb_words.specs.declared.argument.Unfit.{Unfit}
 
 -- a part, with the text that stands for it
@@ -19,6 +19,7 @@ part_text p text = codes "--" ++ name_of p ++ codes " " ++ text
 abbrev pub allowed_for : Argument → Text
 allowed_for Tenants = codes "1 to 256"
 allowed_for Bound = codes "1 to 1000"
+allowed_for StepWork = codes "1 to 4294967295"
 allowed_for Action = codes "check"
 allowed_for Tenant = codes "0 to 255"
 allowed_for Into = codes "a folder, without --tenant"

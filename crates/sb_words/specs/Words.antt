@@ -139,6 +139,6 @@ AskForOneThing = (words : List Text) (a : Request) → AskFor words a → (kind 
 abbrev pub UnfitAskForNothing : Type 0
 UnfitAskForNothing = (words : List Text) (u : Unfit) → HaveUnfit words u ⊎ HaveMisplaced words u → (a : Request) → AskFor words a → ⊥
 
--- no word behind the name asks for a run of 16 tenants, with 1,000 considerations
+-- no word behind the name asks for a run of 16 tenants, with 1,000 considerations and no budget
 abbrev pub NoWordAsksForRun : Type 0
-NoWordAsksForRun = (words : List Text) → length words ≤ 1 → AskFor words (run (record { tenants = 16; bound = 1000 }) fresh)
+NoWordAsksForRun = (words : List Text) → length words ≤ 1 → AskFor words (run (record { tenants = 16; bound = 1000; work = None }) fresh)

@@ -32,6 +32,7 @@ pub enum Argument {
     Status,
     Tenants,
     Bound,
+    StepWork,
     Cells,
     Workers,
     Port,
@@ -60,13 +61,14 @@ pub(crate) const COMMANDS: [Verb; 8] = [
 ];
 
 /// All parts, in the order in which they are looked at.
-pub(crate) const PARTS: [Argument; 27] = [
+pub(crate) const PARTS: [Argument; 28] = [
     Argument::Old,
     Argument::New,
     Argument::Action,
     Argument::Folder,
     Argument::Tenants,
     Argument::Bound,
+    Argument::StepWork,
     Argument::Tenant,
     Argument::Into,
     Argument::Cells,
@@ -91,18 +93,20 @@ pub(crate) const PARTS: [Argument; 27] = [
 ];
 
 /// The parts of `run`, which needn't be named.
-pub(crate) const RUN_PARTS: [Argument; 5] = [
+pub(crate) const RUN_PARTS: [Argument; 6] = [
     Argument::Tenants,
     Argument::Bound,
+    Argument::StepWork,
     Argument::Load,
     Argument::Journal,
     Argument::Sync,
 ];
 
 /// The parts of `serve`.
-pub(crate) const SERVE_PARTS: [Argument; 21] = [
+pub(crate) const SERVE_PARTS: [Argument; 22] = [
     Argument::Tenants,
     Argument::Bound,
+    Argument::StepWork,
     Argument::Cells,
     Argument::Workers,
     Argument::Port,
@@ -125,27 +129,30 @@ pub(crate) const SERVE_PARTS: [Argument; 21] = [
 ];
 
 /// The parts of `replay`.
-pub(crate) const REPLAY_PARTS: [Argument; 4] = [
+pub(crate) const REPLAY_PARTS: [Argument; 5] = [
     Argument::Tenants,
     Argument::Bound,
+    Argument::StepWork,
     Argument::Cells,
     Argument::Workers,
 ];
 
 /// The parts of `dump`.
-pub(crate) const DUMP_PARTS: [Argument; 4] = [
+pub(crate) const DUMP_PARTS: [Argument; 5] = [
     Argument::Tenants,
     Argument::Bound,
+    Argument::StepWork,
     Argument::Tenant,
     Argument::Into,
 ];
 
 /// The parts of `compact`.
-pub(crate) const COMPACT_PARTS: [Argument; 4] = [
+pub(crate) const COMPACT_PARTS: [Argument; 5] = [
     Argument::Old,
     Argument::New,
     Argument::Tenants,
     Argument::Bound,
+    Argument::StepWork,
 ];
 
 /// The parts of `journal`.
@@ -197,6 +204,7 @@ impl Argument {
             Argument::Status => "status",
             Argument::Tenants => "tenants",
             Argument::Bound => "bound",
+            Argument::StepWork => "step-work",
             Argument::Cells => "cells",
             Argument::Workers => "workers",
             Argument::Port => "port",
@@ -222,6 +230,7 @@ impl Argument {
             Argument::Tenant => numbers(0, 255, 0),
             Argument::Tenants => numbers(1, 256, 16),
             Argument::Bound => numbers(1, 1000, 1000),
+            Argument::StepWork => numbers(1, 4_294_967_295, 67_108_864),
             Argument::Cells => numbers(1, 16, 4),
             Argument::Workers => numbers(1, 16, 4),
             Argument::Port => numbers(0, 65_535, 0),

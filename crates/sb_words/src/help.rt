@@ -59,6 +59,9 @@ impl Argument {
             Argument::Bound => {
                 "The most rules that are considered at one assertion point:\n1 to 1000 [default: 1000]"
             }
+            Argument::StepWork => {
+                "The most units of work of one step: 1 to 4294967295\n[default: any number]"
+            }
             Argument::Tenant => "The tenant that is written: 0 to 255 [default: 0]",
             Argument::Into => {
                 "Write each tenant N that was opened to FOLDER/N.lines,\nand nothing on standard output"

@@ -16,11 +16,13 @@ use crate::severity::Severity;
 use crate::syncs::Syncs;
 use clap::ArgMatches;
 
-/// A run over standard input: how many tenants are hosted, and their consideration limit.
+/// A run over standard input: how many tenants are hosted, their consideration limit, and the budget of a
+/// step, if there is one.
 #[derive(Clone, Copy, Debug)]
 pub struct Run {
     pub tenants: u32,
     pub bound: u32,
+    pub work: Option<u32>,
 }
 
 /// A run over standard input, and the tenant whose script is written behind it.
@@ -200,6 +202,18 @@ fn run_of(matches: &ArgMatches<'_>) -> Run
     Run {
         tenants: number_at(matches, Argument::Tenants),
         bound: number_at(matches, Argument::Bound),
+        work: work_at(matches),
+    }
+}
+
+/// The budget of a step, if there is to be one.
+fn work_at(matches: &ArgMatches<'_>) -> Option<u32>
+    requires { AreAllowed (rows_of (found_of matches.now)) }
+    ensures { result ≡ spec.work_in (rows_of (found_of matches.now)) }
+{
+    match text_at(matches, Argument::StepWork) {
+        Some(_) => Some(number_at(matches, Argument::StepWork)),
+        None => None,
     }
 }
 

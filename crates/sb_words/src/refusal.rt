@@ -40,6 +40,7 @@ fn allowed<'a>(part: Argument) -> &'a str
     match part {
         Argument::Tenants => "1 to 256",
         Argument::Bound => "1 to 1000",
+        Argument::StepWork => "1 to 4294967295",
         Argument::Action => "check",
         Argument::Tenant => "0 to 255",
         Argument::Into => "a folder, without --tenant",
