@@ -1,5 +1,6 @@
 -- Promise: how the status port answers a request.
 use Rattle.std.specs.Prelude.{◌≡◌, ◌⊎◌, ◌++◌, ◌<◌, ℕ, Bool, true, bytes_eq, codes, if◌then◌else◌, length, List, [], not, option_copied, Option, None, Some}
+use Rattle.sb_tenant.specs.declared.bound.Bound.{Bound}
 use Rattle.httparse.specs.Grammar.{HasNoRequest}
 use Rattle.httparse.specs.Spans.{RequestOverflows}
 use Rattle.sb_connection.specs.declared.first_line.SessionName.{SessionName}
@@ -43,7 +44,7 @@ abbrev pub IsTurnedAway : Bool → Request → Target → HttpRefusal → Type 0
 IsTurnedAway wants r target why =
     (misfit_of target r ≡ Some why) ⊎ ((misfit_of target r ≡ None) × (wants_key wants target ≡ true) × (why ≡ KeyWanted))
 
-module _ (wants : Bool) (admits : ℕ → List ℕ → Type 0) (first tenants cells bound : ℕ) (told : ℕ → SessionName → Type 0) (asked : ℕ → ℕ → Type 0) (stopped : Type 0) (lets_in : Bool → Type 0) where
+module _ (wants : Bool) (admits : ℕ → List ℕ → Type 0) (first tenants cells : ℕ) (bound : Bound) (told : ℕ → SessionName → Type 0) (asked : ℕ → ℕ → Type 0) (stopped : Type 0) (lets_in : Bool → Type 0) where
   -- a request that fits, and has the key of whom its target belongs to, is replied to
   abbrev pub IsLetIn : Request → Target → Outcome → Type 0
   IsLetIn r target outcome =

@@ -1,5 +1,6 @@
 -- Promise: what the status port shows of a host at each route, and whose it is.
 use Rattle.std.specs.Prelude.{◌≡◌, ◌⊎◌, ◌+◌, ◌%◌, ◌<◌, ◌≤◌, ℕ, Bool, false, true, List, [], codes}
+use Rattle.sb_tenant.specs.declared.bound.Bound.{Bound}
 use Rattle.sb_connection.specs.declared.first_line.SessionName.{SessionName}
 use Rattle.sb_status.specs.Pages.{IsPage}
 use Rattle.sb_status.specs.TenantPages.{IsPageOf}
@@ -35,7 +36,7 @@ abbrev pub IsPageAt : ℕ → ℕ → List ℕ → Type 0
 IsPageAt first n body = (place : ℕ) × (first + place ≡ n) × (view : TenantView) × IsViewAt first place view × IsPageOf view body
 
 -- the one of a tenant of this number
-abbrev pub IsScriptAt : ℕ → ℕ → ℕ → List ℕ → Type 0
+abbrev pub IsScriptAt : ℕ → Bound → ℕ → List ℕ → Type 0
 IsScriptAt first bound n body = (own : Tenant) × (first + own.id ≡ n) × IsScriptOf bound own body
 
 -- the worker of its tenant's cell was told that this session is to end
@@ -73,7 +74,7 @@ abbrev pub IsPageOutcome : ℕ → ℕ → ℕ → Outcome → Type 0
 IsPageOutcome first tenants n = IsOutcome status.Found kind.Page (IsPageAt first n) (IsUnshown first tenants n (λ why. why ≡ TenantBusy))
 
 -- its script
-abbrev pub IsScriptOutcome : ℕ → ℕ → ℕ → ℕ → Outcome → Type 0
+abbrev pub IsScriptOutcome : ℕ → ℕ → Bound → ℕ → Outcome → Type 0
 IsScriptOutcome first tenants bound n =
     IsOutcome status.Found kind.Text (IsScriptAt first bound n) (IsUnshown first tenants n (λ why. (why ≡ TenantBusy) ⊎ (why ≡ NoScript)))
 
@@ -98,7 +99,7 @@ abbrev pub AreSamples : Outcome → Type 0
 AreSamples = IsOutcome status.Found kind.Samples (IsPage Label) (λ _. ⊥)
 
 -- each route has its own
-abbrev pub Shows : ℕ → ℕ → ℕ → ℕ → (ℕ → SessionName → Type 0) → (ℕ → ℕ → Type 0) → Route → Outcome → Type 0
+abbrev pub Shows : ℕ → ℕ → ℕ → Bound → (ℕ → SessionName → Type 0) → (ℕ → ℕ → Type 0) → Route → Outcome → Type 0
 Shows first tenants cells bound told asked route.Host outcome = IsHostOutcome outcome
 Shows first tenants cells bound told asked route.Metrics outcome = AreSamples outcome
 Shows first tenants cells bound told asked (route.Tenant n) outcome = IsPageOutcome first tenants n outcome
@@ -120,7 +121,7 @@ abbrev pub IsInTime : (Bool → Type 0) → (Outcome → Type 0) → Outcome →
 IsInTime lets_in replied outcome = (lets_in true × replied outcome) ⊎ (lets_in false × (outcome ≡ NotReady))
 
 -- pages wait until clients are let in; a stop is told at any time
-abbrev pub Replies : ℕ → ℕ → ℕ → ℕ → (ℕ → SessionName → Type 0) → (ℕ → ℕ → Type 0) → Type 0 → (Bool → Type 0) → Target → Outcome → Type 0
+abbrev pub Replies : ℕ → ℕ → ℕ → Bound → (ℕ → SessionName → Type 0) → (ℕ → ℕ → Type 0) → Type 0 → (Bool → Type 0) → Target → Outcome → Type 0
 Replies first tenants cells bound told asked stopped lets_in target.Stop outcome = IsStopOutcome stopped outcome
 Replies first tenants cells bound told asked stopped lets_in target.Ready outcome = IsInTime lets_in IsReadyOutcome outcome
 Replies first tenants cells bound told asked stopped lets_in (target.Page route) outcome =

@@ -27,6 +27,7 @@ use sb_status::{
     SessionReading, SessionView, StatisticsCache, Status, TenantNumbers, TenantView, read_request,
     tenant_page, view_at,
 };
+use sb_tenant::Bound;
 use std::alloc::{AllocError, Global};
 use std::fs::File;
 use std::rt::Clock;
@@ -47,8 +48,8 @@ pub struct Pages<'k, H, A, T, E = ServerControls> {
     pub admission: &'k A,
     /// The number of the first tenant.
     pub first_tenant: u32,
-    /// The most rules that are considered at one assertion point.
-    pub bound: u32,
+    /// The bound of each step.
+    pub bound: Bound,
     /// When the server began.
     pub began: Option<Instant>,
     /// Where the system tells how much memory the process has.
@@ -61,7 +62,7 @@ pub struct Pages<'k, H, A, T, E = ServerControls> {
     pub session_board: &'k SessionBoard,
     /// What tells them that sessions are to end, and the server that it is to stop.
     pub control: &'k E,
-    ghost few: { bound ≤ 1000 },
+    ghost few: { bound.considerations ≤ 1000 },
 }
 
 impl<'k, H: Lending, A: Admission, T: Wait + Clock, E: ServerControl> Pages<'k, H, A, T, E> {
@@ -272,7 +273,7 @@ impl<'k, H: Lending, A: Admission, T: Wait + Clock, E: ServerControl> Pages<'k, 
             version: VERSION,
             tenants: u64::from(self.host.tenants()),
             cells: u64::from(self.host.cells()),
-            bound: u64::from(self.bound),
+            bound: u64::from(self.bound.considerations),
             uptime: self.uptime(),
             memory: resident_of(&self.memory),
         }

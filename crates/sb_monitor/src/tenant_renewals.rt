@@ -11,6 +11,7 @@ use crate::room_reading::{Room, RoomReading};
 use sb_backup::{RenewalFault, Unrenewed, renew_tenant};
 use sb_host::{Renewing, Stub, Tried};
 use sb_server::{CommitHook, CommitStatus, Renewals};
+use sb_tenant::Bound;
 use sb_words::{Log, Severity};
 use std::alloc::{AllocError, Global};
 use std::rt::Clock;
@@ -30,8 +31,8 @@ const NAP: u64 = 10;
 /// When tenants are renewed, and by what.
 #[derive(Clone, Copy)]
 pub struct RenewalLimits {
-    /// The most rules that are considered at one assertion point.
-    pub bound: u32,
+    /// The bound of each step.
+    pub bound: Bound,
     /// They are renewed where their room gets short, and not only where that is asked for.
     pub is_auto: bool,
     /// The bytes that a tenant may take, if they have a limit.
@@ -51,7 +52,7 @@ pub struct TenantRenewals<'k, H, K, T> {
     tenants: Vec<RenewalNotes>,
     /// Of tenants that the host hasn't.
     others: RenewalNotes,
-    ghost few: { limits.bound ≤ 1000 },
+    ghost few: { limits.bound.considerations ≤ 1000 },
 }
 
 /// Why a tenant isn't renewed.
@@ -81,7 +82,7 @@ impl<'k, H: Renewing, K: CommitHook, T: Eprint + Clock> TenantRenewals<'k, H, K,
         board: &'k RenewalBoard,
         limits: RenewalLimits,
     ) -> Result<TenantRenewals<'k, H, K, T>, AllocError>
-        requires { limits.bound ≤ 1000 }
+        requires { limits.bound.considerations ≤ 1000 }
     {
         let mut tenants = Vec::new(alloc);
         for _tenant in 0..host.tenants() {

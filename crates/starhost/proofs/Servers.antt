@@ -4,6 +4,7 @@ use Rattle.std.specs.Prelude.{IfErr, OnOk}
 use Rattle.std.specs.Io.KnownBytes.{Appends}
 use Rattle.std.specs.List.{All}
 use Rattle.std.proofs.KnownBytes.{Appends-trans, Keeps-refl}
+use Rattle.sb_tenant.specs.declared.bound.Bound.{Bound}
 use Rattle.sb_host.specs.Desk.{Stub}
 use Rattle.sb_server.specs.Policies.{anyone, policy}
 use Rattle.sb_server.specs.Renewals.{IsLeft}
@@ -13,7 +14,7 @@ use Rattle.starhost.specs.Totals.{TellsServer, TellsTrails}
 use Rattle.sb_monitor.specs.Listening.{TellsPort, listening_line}
 use Rattle.starhost.specs.declared.fault.ProgramFault.{ProgramFault}
 
-pub tells_both : (old mid new : Option (List ℕ)) (b bound t tenants port : ℕ) (ended : Result (Unit {0}) ProgramFault) → b ≡ bound → t ≡ tenants
+pub tells_both : (old mid new : Option (List ℕ)) (b bound : Bound) (t tenants port : ℕ) (ended : Result (Unit {0}) ProgramFault) → b ≡ bound → t ≡ tenants
     → Appends old mid (listening_line port) → OnOk ended ((line : List ℕ) × Appends mid new line × TellsTrails b t line)
     → OnOk ended ((text : List ℕ) × Appends old new text × TellsServer bound tenants text)
 tells_both old mid new b bound t tenants port (Ok value) same_bound same_tenants first (line, last, tells) = (
@@ -25,7 +26,7 @@ tells_both old mid new b bound t tenants port (Err why) same_bound same_tenants 
 
 module _ {W : Type 0} (refuses : W → Type 0) (contents : W → Option (List ℕ)) (old mid new : W) where
   -- it ends early behind its last connection
-  pub ends_behind : (b bound t tenants first : ℕ) (stubs : List Stub) (ended : Result (Unit {0}) ProgramFault) → b ≡ bound → t ≡ tenants
+  pub ends_behind : (b bound : Bound) (t tenants first : ℕ) (stubs : List Stub) (ended : Result (Unit {0}) ProgramFault) → b ≡ bound → t ≡ tenants
       → TellsPort (contents old) (contents mid) → All (IsLeft (policy false anyone) false) stubs
       → IfErr ended (λ why. FailsToTell refuses contents b t first stubs mid new why)
       → IfErr ended (EndsEarly refuses contents bound tenants first old new)
@@ -44,7 +45,7 @@ module _ {W : Type 0} (refuses : W → Type 0) (contents : W → Option (List �
 
 module _ {W : Type 0} (refuses : W → Type 0) (contents : W → Option (List ℕ)) (old new : W) where
   -- or nothing listens, or connections aren't served
-  pub ends_unserved : (bound tenants first : ℕ) (why : ProgramFault) → IsUnheard refuses contents old new why ⊎ (TellsPort (contents old) (contents new) × IsUnserved why)
+  pub ends_unserved : (bound : Bound) (tenants first : ℕ) (why : ProgramFault) → IsUnheard refuses contents old new why ⊎ (TellsPort (contents old) (contents new) × IsUnserved why)
       → EndsEarly refuses contents bound tenants first old new why
   ends_unserved bound tenants first why (inl unheard) = inl unheard
   ends_unserved bound tenants first why (inr (told, unserved)) = inr (told.0, new, told.1, inl (Keeps-refl (contents new), unserved))

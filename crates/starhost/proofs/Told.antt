@@ -3,6 +3,7 @@ use Rattle.std.proofs.Common.{◌≡◌, ◌∙◌, ◌⊎◌, ◌++◌, ℕ, Li
 use Rattle.std.specs.Prelude.{OnOk}
 use Rattle.std.specs.Io.KnownBytes.{Appends, Keeps}
 use Rattle.std.proofs.KnownBytes.{Appends-trans}
+use Rattle.sb_tenant.specs.declared.bound.Bound.{Bound}
 use Rattle.sb_cell.specs.Tenants.{IsNew, Cell as ItsCell}
 use Rattle.sb_wire.specs.Counts.{Counts, IsSummary, Summarizes}
 use Rattle.sb_wire.specs.Lines.{Piece}
@@ -41,7 +42,7 @@ summarizes lines text old new none counts =
     record { responses = counts.responses; each = counts.each; whole = counts.whole; is = counts.adds.behind [] none }
 
 -- a stream on a fresh cell, with a summary from nothing
-pub goes-fresh : {R W : Type 0} (fails : R → Type 0) (remaining : R → Option (List ℕ)) (refuses : W → Type 0) (contents : W → Option (List ℕ)) (tenants bound : ℕ)
+pub goes-fresh : {R W : Type 0} (fails : R → Type 0) (remaining : R → Option (List ℕ)) (refuses : W → Type 0) (contents : W → Option (List ℕ)) (tenants : ℕ) (bound : Bound)
     (reader rest : R) (writer after : W) (ended : Result (Unit {0}) StreamError) (none summary : Summary) → IsSummary [] none
     → (((ended ≡ Err NoMemory) × Keeps (remaining reader) (remaining rest) × Keeps (contents writer) (contents after) × (summary ≡ none))
     ⊎ ((old new : ItsCell) × IsNew 0 1 tenants bound old

@@ -1,6 +1,7 @@
 -- Promise: what the program does, and what it tells on standard error.
 use Rattle.std.specs.Prelude.{◌≡◌, ◌⊎◌, ◌++◌, ℕ, Bool, true, false, List, [], Option, Result, Ok, Err, codes}
 use Rattle.std.specs.Io.KnownBytes.{Appends, Keeps}
+use Rattle.sb_tenant.specs.declared.bound.Bound.{Bound}
 use Rattle.sb_cell.specs.Tenants.{IsNew, Cell as ItsCell}
 use Rattle.sb_wire.specs.Counts.{IsSummary, Summarizes, summary_line}
 use Rattle.sb_wire.specs.Faults.{fault_line}
@@ -40,7 +41,7 @@ TellsRun refuses contents is_terminal old new summary ended =
     (line : List ℕ) × IsSummaryLine is_terminal summary line × Tells refuses contents old new (line ++ line_of ended)
 
 -- A stream on a fresh cell of so many tenants, with this bound: there is no room for a cell, or the stream goes on one. The summary counts its replies.
-abbrev pub GoesFresh : {R W : Type 0} → (R → Type 0) → (R → Option (List ℕ)) → (W → Type 0) → (W → Option (List ℕ)) → ℕ → ℕ → R → R → W → W
+abbrev pub GoesFresh : {R W : Type 0} → (R → Type 0) → (R → Option (List ℕ)) → (W → Type 0) → (W → Option (List ℕ)) → ℕ → Bound → R → R → W → W
     → Result (Unit {0}) StreamError → Summary → Type 0
 GoesFresh fails remaining refuses contents tenants bound reader rest writer after ended summary =
     (((ended ≡ Err NoMemory) × Keeps (remaining reader) (remaining rest) × Keeps (contents writer) (contents after) × IsSummary [] summary)

@@ -2,6 +2,7 @@
 use Rattle.std.specs.Prelude.{ℕ, ◌≡◌, ◌⊎◌, Bool, false, List, Option, Err}
 use Rattle.std.specs.List.{All}
 use Rattle.std.specs.Io.KnownBytes.{Appends, Keeps}
+use Rattle.sb_tenant.specs.declared.bound.Bound.{Bound}
 use Rattle.sb_wire.specs.Stream.{MayFail}
 use Rattle.sb_wire.specs.declared.fault.StreamError.TheVariants as stream
 use Rattle.sb_host.specs.Finish.{Finishes}
@@ -23,19 +24,19 @@ module _ {W : Type 0} (refuses : W → Type 0) (contents : W → Option (List �
       ((why ≡ Stream stream.WriteFault) × MayFail refuses contents after) ⊎ (Keeps (contents writer) (contents after) × reason)
 
   -- The trails aren't told: the host wasn't finished with these receipts, or there was no memory for the line.
-  abbrev pub FailsToTell : ℕ → ℕ → ℕ → List Stub → W → W → ProgramFault → Type 0
+  abbrev pub FailsToTell : Bound → ℕ → ℕ → List Stub → W → W → ProgramFault → Type 0
   FailsToTell bound tenants first stubs writer after why =
       WritesNot writer after why
       ((why ≡ Stream stream.NoMemory) ⊎ ((e : FinishError) × Finishes bound tenants stubs (Err e) × (why ≡ unfinished_as first e)))
 
   -- So it is behind the last connection, with receipts that sessions left, all of them closed where tenants aren't renewed; or connections weren't served.
-  abbrev pub FailsToServe : Policy → Bool → ℕ → ℕ → ℕ → W → W → ProgramFault → Type 0
+  abbrev pub FailsToServe : Policy → Bool → Bound → ℕ → ℕ → W → W → ProgramFault → Type 0
   FailsToServe p may_renew bound tenants first writer after why =
       (Keeps (contents writer) (contents after) × ((e : ServeError) × (why ≡ unserved_as e)))
       ⊎ ((stubs : List Stub) × All (IsLeft p may_renew) stubs × FailsToTell bound tenants first stubs writer after why)
 
   -- a server without keys ends so, or behind its first line
-  abbrev pub EndsEarly : ℕ → ℕ → ℕ → W → W → ProgramFault → Type 0
+  abbrev pub EndsEarly : Bound → ℕ → ℕ → W → W → ProgramFault → Type 0
   EndsEarly bound tenants first writer after why =
       ((e : ListenError) × (why ≡ unheard_as e) × FailsToListen refuses contents writer after e)
       ⊎ ((port : ℕ) × (mid : W) × Appends (contents writer) (contents mid) (listening_line port)

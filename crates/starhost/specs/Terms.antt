@@ -7,6 +7,7 @@ use Rattle.std.specs.Net.Socket.{socket_ip, socket_port}
 use Rattle.std.specs.declared.net.ipv4_addr.Ipv4Addr.{Ipv4Addr}
 use Rattle.std.specs.declared.net.ip_addr.IpAddr.TheVariants.{V4}
 use Rattle.std.specs.declared.net.socket_addr.SocketAddr.{SocketAddr}
+use Rattle.sb_backup.specs.Bounds.{bound_of}
 use Rattle.sb_server.specs.declared.server.Terms.{Terms}
 use Rattle.sb_words.specs.declared.invocation.ServerOptions.{ServerOptions}
 use Rattle.starhost.specs.declared.terms.Plan.{Plan}
@@ -46,6 +47,6 @@ IsStatusOf (Some port) None = ⊥
 -- so does all of the plan
 abbrev pub IsPlanOf : ServerOptions → Plan → Type 0
 IsPlanOf s p =
-    IsHere s.port p.address × (p.tenants ≡ s.hosting.run.tenants) × (p.cells ≡ s.hosting.cells) × (p.bound ≡ s.hosting.run.bound)
+    IsHere s.port p.address × (p.tenants ≡ s.hosting.run.tenants) × (p.cells ≡ s.hosting.cells) × (p.bound ≡ bound_of s.hosting.run)
     × AreMegabytes s.tenant_memory p.tenant_memory × AreTermsOf s p.terms × (p.log ≡ s.log) × IsStatusOf s.status p.status
     × (p.renew ≡ s.renew) × (p.segment ≡ s.segment * 1_048_576)

@@ -60,10 +60,7 @@ where
 
     /// The settings of the server's journal.
     fn journal_head(&self) -> Head {
-        Head {
-            tenants: self.plan.tenants,
-            bound: u64::from(self.plan.bound),
-        }
+        Head::new(self.plan.tenants, self.plan.bound)
     }
 
     /// Logs why the journal at this path isn't opened.

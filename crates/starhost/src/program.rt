@@ -23,6 +23,7 @@ ghost use Rattle.starhost.specs.Commands.{Shows, Tells};
 ghost use Rattle.starhost.specs.Parses.{TellsLines};
 ghost use Rattle.starhost.specs.Reads.{Goes, Succeeds};
 ghost use Rattle.starhost.specs.Totals.{TellsServer};
+ghost use Rattle.sb_backup.specs.Bounds.{bound_of};
 
 use crate::fault::tell_end;
 use crate::journal_check::check;
@@ -55,38 +56,39 @@ pub fn command<T: System + Sync, S: AsStr, R: Source, W: Sink, E: Sink>(
     // with status 0, words that ask for a run have the definition's text for the input
     ensures runs { (r : ItsRun) → AskFor (map S.text words.now) (request.run r request.fresh)
         → result ≡ 0 → WritesOf R.remaining W.contents reader.old writer.old writer.new
-        (AnswersFresh r.tenants r.bound) }
+        (AnswersFresh r.tenants (bound_of r)) }
     ensures usual { length words.now ≤ 1 → result ≡ 0 →
-        WritesOf R.remaining W.contents reader.old writer.old writer.new (AnswersFresh 16 1000) }
+        WritesOf R.remaining W.contents reader.old writer.old writer.new
+        (AnswersFresh 16 (record { considerations = 1000; work = None })) }
     // and words that ask for a run on files what it is answered on tenants that scripts made
     ensures loads { (r : ItsRun) (path : List ℕ) → AskFor (map S.text words.now) (request.run r (request.folder path))
         → result ≡ 0 → WritesOf R.remaining W.contents reader.old writer.old writer.new
-        (AnswersLoaded r.tenants r.bound) }
+        (AnswersLoaded r.tenants (bound_of r)) }
     // and words that ask for a run with a journal what it is answered on tenants that a journal made
     ensures records { (r : ItsRun) (path : List ℕ) (syncs : ItsSyncs)
         → AskFor (map S.text words.now) (request.run r (request.journal path syncs))
         → result ≡ 0 → WritesOf R.remaining W.contents reader.old writer.old writer.new
-        (AnswersJournaled r.tenants r.bound) }
+        (AnswersJournaled r.tenants (bound_of r)) }
     // and words that ask for a server, whatever it begins with, its port and its trails
     ensures serves { (s : ItsServerOptions) (begins : Beginning) (dump_to keys : Option (List ℕ))
         → AskFor (map S.text words.now) (request.serve s begins dump_to keys)
         → result ≡ 0 → Writes W.contents writer.old writer.new
-        (TellsServer s.hosting.run.bound s.hosting.run.tenants) }
+        (TellsServer (bound_of s.hosting.run) s.hosting.run.tenants) }
     // and words that ask for a replay what the sessions of the input were answered
     ensures replays { (h : ItsHostOptions) → AskFor (map S.text words.now) (request.replay h)
         → result ≡ 0 → WritesOf R.remaining W.contents reader.old writer.old writer.new
-        (Replays h.run.tenants h.run.bound) }
+        (Replays h.run.tenants (bound_of h.run)) }
     // and words that ask for it which lines of the input are commands
     ensures parses { AskFor (map S.text words.now) request.parse
         → result ≡ 0 → WritesOf R.remaining W.contents reader.old writer.old writer.new TellsLines }
     // and words that ask for a dump the script of a tenant, as the input leaves it
     ensures dumps { (d : ItsDumping) → AskFor (map S.text words.now) (request.dump d None)
         → result ≡ 0 → WritesOf R.remaining W.contents reader.old writer.old writer.new
-        (DumpsInput d.run.tenants d.run.bound d.tenant) }
+        (DumpsInput d.run.tenants (bound_of d.run) d.tenant) }
     // and words that ask for a dump of all nothing, where each tenant has a script as the input leaves it
     ensures dumps_all { (d : ItsDumping) (path : List ℕ) → AskFor (map S.text words.now) (request.dump d (Some path))
         → result ≡ 0 → (writer.new ≡ writer.old)
-        × IfSome (R.remaining reader.old) (HaveScripts d.run.tenants d.run.bound) }
+        × IfSome (R.remaining reader.old) (HaveScripts d.run.tenants (bound_of d.run)) }
     // and words that ask for it the digest of the key that the input's first line is
     ensures digests { AskFor (map S.text words.now) request.key
         → result ≡ 0 → TellsDigest (R.remaining reader.old) (R.remaining reader.new)

@@ -5,10 +5,12 @@ ghost use Rattle.sb_replay.specs.declared.error.ReplayError.{ReplayError as ItsE
 ghost use Rattle.starhost.specs.Faults.{unplayed_as};
 ghost use Rattle.sb_backup.specs.Outputs.{WritesOf};
 ghost use Rattle.sb_words.specs.Within.{AreHost};
+ghost use Rattle.sb_backup.specs.Bounds.{bound_of};
 
 use crate::fault::ProgramFault;
 use crate::host_end::fault_of;
 use sb_replay::{ReplayError, Size, replay_fresh};
+use sb_tenant::Bound;
 use sb_wire::{Sink, Source, StreamError};
 use sb_words::HostOptions;
 use std::alloc::Global;
@@ -25,14 +27,17 @@ pub(crate) fn replay<T: Threads + Wait + Sync, R: Source, W: Sink>(
 ) -> Result<(), ProgramFault>
     requires { AreHost hosting }
     ensures ok { OnOk result (WritesOf R.remaining W.contents reader.old writer.old writer.new
-        (Replays hosting.run.tenants hosting.run.bound)) }
+        (Replays hosting.run.tenants (bound_of hosting.run))) }
     ensures err { IfErr result (λ why. (e : ItsError) × (why ≡ unplayed_as e)
-        × Fails R.fails R.remaining W.refuses W.contents hosting.run.tenants hosting.run.bound
+        × Fails R.fails R.remaining W.refuses W.contents hosting.run.tenants (bound_of hosting.run)
         reader.old reader.new writer.old writer.new e) }
 {
     let size = Size {
         tenants: hosting.run.tenants,
-        bound: hosting.run.bound,
+        bound: Bound {
+            considerations: hosting.run.bound,
+            work: hosting.run.work,
+        },
         cells: hosting.cells,
         workers: hosting.workers,
     };

@@ -7,6 +7,7 @@ ghost use Rattle.sb_words.specs.Within.{AreRun};
 ghost use Rattle.sb_backup.specs.Outputs.{WritesOf};
 ghost use Rattle.starhost.specs.Commands.{GoesFresh, TellsRun, status_of};
 ghost use Rattle.starhost.specs.Reads.{Goes, Succeeds};
+ghost use Rattle.sb_backup.specs.Bounds.{bound_of};
 
 use crate::fault::{ProgramFault, tell_end, tell_fault};
 use crate::part_faults::of_journal;
@@ -16,6 +17,7 @@ use sb_backup::loaded_cell;
 use sb_cell::Cell;
 use sb_durable::{JournaledRun, run_journaled};
 use sb_monitor::EventLog;
+use sb_tenant::Bound;
 use sb_wire::{Sink, Source, Summary, run_fresh, run_stream};
 use sb_words::{Origin, Run, RunWords, Severity};
 use std::alloc::Global;
@@ -64,22 +66,19 @@ fn run_new<R: Source, W: Sink, E: Sink>(
 ) -> u8
     requires { AreRun asked }
     ensures runs { result ≡ 0 → WritesOf R.remaining W.contents reader.old writer.old writer.new
-        (AnswersFresh asked.tenants asked.bound) }
+        (AnswersFresh asked.tenants (bound_of asked)) }
     ensures goes { (ended : _) × (summary : _) × (result ≡ status_of ended)
-        × GoesFresh R.fails R.remaining W.refuses W.contents asked.tenants asked.bound
+        × GoesFresh R.fails R.remaining W.refuses W.contents asked.tenants (bound_of asked)
         reader.old reader.new writer.old writer.new ended summary
         × TellsRun E.refuses E.contents errors.old.is_terminal errors.old.sink errors.new.sink
         summary ended }
 {
     let mut summary = Summary::new();
-    let ended = run_fresh(
-        alloc,
-        asked.tenants,
-        asked.bound,
-        reader,
-        writer,
-        &mut summary,
-    );
+    let bound = Bound {
+        considerations: asked.bound,
+        work: asked.work,
+    };
+    let ended = run_fresh(alloc, asked.tenants, bound, reader, writer, &mut summary);
     tell_run(alloc, &summary, ended, errors)
 }
 

@@ -7,6 +7,7 @@ ghost use Rattle.sb_words.specs.Within.{AreServer};
 ghost use Rattle.starhost.specs.Ends.{EndsEarly};
 ghost use Rattle.starhost.specs.Plains.{IsPlainServer};
 ghost use Rattle.starhost.specs.Totals.{TellsServer};
+ghost use Rattle.sb_backup.specs.Bounds.{bound_of};
 
 use crate::fault::ProgramFault;
 use crate::server_context::ServerContext;
@@ -31,10 +32,10 @@ pub(crate) fn serve<T: System + Sync, W: Sink>(
 ) -> Result<(), ProgramFault>
     requires { AreServer words.options }
     ensures ok { OnOk result (Writes W.contents writer.old writer.new
-        (TellsServer words.entry.options.hosting.run.bound words.entry.options.hosting.run.tenants)) }
+        (TellsServer (bound_of words.entry.options.hosting.run) words.entry.options.hosting.run.tenants)) }
     ensures err { IsPlain words.entry.options (beginning_of words.entry.origin) (text_of words.entry.dump_to)
         (text_of words.entry.keys) → IfErr result (EndsEarly W.refuses W.contents
-        words.entry.options.hosting.run.bound words.entry.options.hosting.run.tenants
+        (bound_of words.entry.options.hosting.run) words.entry.options.hosting.run.tenants
         words.entry.options.first_tenant writer.old writer.new) }
 {
     let plan = plan_of(words.options);
@@ -46,7 +47,7 @@ pub(crate) fn serve<T: System + Sync, W: Sink>(
 
 /// The parts of a server's host.
 fn opened_by(alloc: Global, plan: Plan) -> Result<Opened, AllocError>
-    requires tenants { (0 < plan.tenants) × (plan.tenants ≤ 256) × (plan.bound ≤ 1000) }
+    requires tenants { (0 < plan.tenants) × (plan.tenants ≤ 256) × (plan.bound.considerations ≤ 1000) }
     requires cells { (0 < plan.cells) × (plan.cells ≤ 16) }
     ensures { IfOk result (λ o. (o.tenants ≡ plan.tenants) × (o.cells ≡ plan.cells) × (o.bound ≡ plan.bound)) }
 {
@@ -64,7 +65,7 @@ fn serve_host<N: Naming + Send + Sync, T: System + Sync, W: Sink>(
 ) -> Result<(), ProgramFault>
     requires named { AreNames N.table N.tenants N.cells N.bound N.name N.parts opened }
     requires cells { opened.cells ≡ plan.cells }
-    requires bound { plan.bound ≤ 1000 }
+    requires bound { plan.bound.considerations ≤ 1000 }
     requires workers { (0 < plan.terms.workers) × (plan.terms.workers ≤ 16) }
     ensures ok { OnOk result (Writes W.contents writer.old writer.new (TellsServer opened.bound opened.tenants)) }
     ensures err { IsPlainServer words.entry plan → IfErr result (EndsEarly W.refuses W.contents

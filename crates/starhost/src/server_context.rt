@@ -42,7 +42,7 @@ pub(crate) struct ServerContext<'k, H, T> {
     pub(crate) controls: &'k ServerControls,
     /// Who has started it, if it wants to hear of it.
     pub(crate) supervisor: Option<Supervisor>,
-    ghost bound: { plan.bound ≤ 1000 },
+    ghost bound: { plan.bound.considerations ≤ 1000 },
     ghost workers: { (0 < plan.terms.workers) × (plan.terms.workers ≤ 16) },
 }
 

@@ -4,6 +4,7 @@ ghost use Rattle.starhost.specs.Terms.{AreMegabytes, AreMillis, AreTermsOf, IsHe
 ghost use Rattle.sb_words.specs.Within.{AreServer};
 
 use sb_server::Terms;
+use sb_tenant::Bound;
 use sb_words::{RenewPolicy, ServerOptions, Severity};
 use std::net::{IpAddr, Ipv4Addr, SocketAddr};
 use std::time::Duration;
@@ -16,7 +17,7 @@ pub(crate) struct Plan {
     pub(crate) address: SocketAddr,
     pub(crate) tenants: u32,
     pub(crate) cells: u32,
-    pub(crate) bound: u32,
+    pub(crate) bound: Bound,
     /// How many bytes each tenant may take, if that is limited.
     pub(crate) tenant_memory: Option<u64>,
     pub(crate) terms: Terms,
@@ -38,7 +39,10 @@ pub(crate) fn plan_of(serving: ServerOptions) -> Plan
         address: here(serving.port as u16),
         tenants: serving.hosting.run.tenants,
         cells: serving.hosting.cells,
-        bound: serving.hosting.run.bound,
+        bound: Bound {
+            considerations: serving.hosting.run.bound,
+            work: serving.hosting.run.work,
+        },
         tenant_memory: megabytes(serving.tenant_memory),
         terms: terms_of(serving),
         log: serving.log,

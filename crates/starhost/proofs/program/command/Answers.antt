@@ -16,7 +16,7 @@ returns-in-Ok-For g c =
     as_asked c.words_ask_once.ensures.once words Has b.field-0 b.asked q b.ensures.asked b.field-0-is asks (c.answer.ensures.succeeds ok) in
     record {
       runs = λ r. has (run r fresh);
-      usual = λ few. has (run (record { tenants = 16; bound = 1000 }) fresh) (c.words_ask_once.ensures.usual words (few_texts g.S.AsStr.text c.args.words.now few));
+      usual = λ few. has (run (record { tenants = 16; bound = 1000; work = None }) fresh) (c.words_ask_once.ensures.usual words (few_texts g.S.AsStr.text c.args.words.now few));
       loads = λ r path. has (run r (folder path));
       records = λ r path syncs. has (run r (journal path syncs));
       serves = λ s begins dump_to keys. has (serve s begins dump_to keys);

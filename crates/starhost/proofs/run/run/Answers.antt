@@ -1,4 +1,5 @@
 use Rattle.std.proofs.Common.{inl, inr, refl}
+use Rattle.sb_backup.specs.Bounds.{bound_of}
 use Rattle.sb_backup.proofs.Loaded.{answers_loaded}
 use Rattle.starhost.proofs.Runs.{err_journal, ok_journal, went_well}
 use Rattle.starhost.proofs.run.run.Goals as goal
@@ -12,7 +13,7 @@ returns-in-Fresh-clause-goes g c = rw c.in-Fresh.is c.run_new.ensures.goes
 -- on the tenants of files
 pub returns-in-Ok-clause-succeeds : goal.returns-in-Ok-clause-succeeds
 returns-in-Ok-clause-succeeds g c = rw c.in-Folder.is (λ zero.
-    answers_loaded c.args.asked.run.tenants c.args.asked.run.bound c.in-Ok.cell c.run_on.new.cell (g.R.Read.remaining c.args.reader.now) (g.W.Write.contents c.args.writer.now)
+    answers_loaded c.args.asked.run.tenants (bound_of c.args.asked.run) c.in-Ok.cell c.run_on.new.cell (g.R.Read.remaining c.args.reader.now) (g.W.Write.contents c.args.writer.now)
     (g.W.Write.contents c.run_on.new.writer) c.in-Ok.ensures.ok (c.run_on.ensures.runs zero))
 
 pub returns-in-Ok-clause-goes : goal.returns-in-Ok-clause-goes

@@ -1,8 +1,19 @@
-use Rattle.std.proofs.Common.{inl, inr, refl, rules}
+use Rattle.std.proofs.Common.{◌≤◌, inl, inr, refl, sym, subst, arith, rules}
+use Rattle.sb_tenant.specs.declared.bound.Bound.{Bound}
 use Rattle.sb_wire.specs.declared.fault.StreamError.TheVariants as stream
 use Rattle.sb_monitor.specs.declared.listener.ListenError.TheVariants as listen
 use Rattle.starhost.proofs.Plains.{is_plain}
 use Rattle.starhost.proofs.server.serve.Goals as goal
+
+-- the numbers of a plan are within their ranges, as those of the words are
+pub opened_by-requires-clause-tenants : goal.opened_by-requires-clause-tenants
+opened_by-requires-clause-tenants g c =
+    let plan = c.plan_of-plan.ensures in
+    let run = c.requires.0.0 in
+    (omega (arith, plan.1, run.0), omega (arith, plan.1, run.1), subst (λ (b : Bound). b.considerations ≤ 1000) (sym plan.3) run.3)
+
+pub serve_host-requires-clause-bound : goal.serve_host-requires-clause-bound
+serve_host-requires-clause-bound g c = subst (λ (b : Bound). b.considerations ≤ 1000) (sym c.plan_of-plan.ensures.3) c.requires.0.0.3
 
 -- the host has the numbers of the plan, and the plan those of the words
 pub returns-in-Ok-clause-ok : goal.returns-in-Ok-clause-ok
