@@ -38,6 +38,8 @@ pub struct Header {
     pub each: Each,
     pub tenants: u32,
     pub bound: u32,
+    /// The budget of a step, if it has one.
+    pub work: Option<u32>,
     /// The buckets of the log, if they aren't the usual ones.
     pub buckets: Option<u32>,
     /// The most bytes that a read gives.
@@ -58,6 +60,7 @@ impl Header {
             each: Each::Once,
             tenants: 1,
             bound: 1000,
+            work: None,
             buckets: None,
             pieces: u32::MAX,
             cut: 0,
@@ -87,6 +90,7 @@ impl Header {
         match setting {
             b"tenants" => self.tenants = number,
             b"bound" => self.bound = number,
+            b"work" => self.work = Some(number),
             b"buckets" => self.buckets = Some(number),
             b"pieces" => self.pieces = number,
             b"cut" => self.cut = number,

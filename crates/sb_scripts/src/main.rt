@@ -3,8 +3,8 @@
 //! A header is `# name setting=value ..`; its words without `=` say what the block shows. The lines
 //! below it, up to the next header, are commands:
 //!
-//! - of a stream on a fresh cell, as a client sends them. `tenants=2`, `bound=3` and `buckets=1` say
-//!   of which cell, `pieces=7` that a read gives at most 7 bytes, `cut=1` that the last byte isn't
+//! - of a stream on a fresh cell, as a client sends them. `tenants=2`, `bound=3`, `work=500` and
+//!   `buckets=1` say of which cell, `pieces=7` that a read gives at most 7 bytes, `cut=1` that the last byte isn't
 //!   sent, `fails=30` that reads fail behind 30 bytes, `room=6` that the writer has room for 6 bytes,
 //!   and `each=fails` or `each=room` that the block is played for each number below that one. With
 //!   `each=reads` it is played with each read failing in turn, with `each=writes` as it is and then

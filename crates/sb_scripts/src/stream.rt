@@ -6,6 +6,7 @@ use crate::fault::ScriptFault;
 use crate::header::{Each, Header};
 use crate::repeat::push_times;
 use sb_cell::Cell;
+use sb_tenant::Bound;
 use sb_wire::{Fallible, StreamError, Summary, run_stream};
 use std::alloc::Global;
 
@@ -136,7 +137,11 @@ pub fn fresh_cell(alloc: Global, header: Header) -> Result<Cell, ScriptFault> {
     if header.tenants > MOST_TENANTS || header.bound > MOST_BOUND {
         return Err(ScriptFault::BadHeader);
     }
-    let Header { tenants, bound, .. } = header;
+    let tenants = header.tenants;
+    let bound = Bound {
+        considerations: header.bound,
+        work: header.work,
+    };
     match header.buckets {
         None => Ok(Cell::new(alloc, 0, 1, tenants, bound)?),
         Some(buckets) if buckets > 0 && buckets <= MOST_BUCKETS => {

@@ -4,7 +4,7 @@
 use crate::fault::ScriptFault;
 use crate::repeat::push_number;
 use sb_cell::{Cell, StepError};
-use sb_tenant::{Answer, END, Entry, OPEN};
+use sb_tenant::{Answer, Bound, END, Entry, OPEN};
 use sb_value::SessionId;
 use sb_wire::{StreamError, write_bare_reply};
 use std::alloc::Global;
@@ -17,7 +17,7 @@ const SHOWN: usize = 4;
 
 /// Adds the numbers and the answers, and the end of the trail. Error: out of memory.
 pub fn play_tenant(alloc: Global, lines: &[u8], out: &mut Vec<u8>) -> Result<(), ScriptFault> {
-    let mut cell = Cell::new(alloc, LONE, LONE + 1, LONE + 1, 0)?;
+    let mut cell = Cell::new(alloc, LONE, LONE + 1, LONE + 1, Bound::without_budget(0))?;
     play_lines(alloc, &mut cell, lines, out)
 }
 

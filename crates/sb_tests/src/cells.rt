@@ -3,7 +3,7 @@
 use crate::mark::mark;
 use sb_cell::{Cell, StepError};
 use sb_rawlog::ChangeLog as _;
-use sb_tenant::{Answer, Reply};
+use sb_tenant::{Answer, Bound, Reply};
 use sb_value::{Name, Refusal, SessionId};
 use std::alloc::Global;
 use std::process::Abort;
@@ -73,7 +73,7 @@ fn step_elsewhere(rt: &impl Abort, alloc: Global, cell: &mut Cell) {
 
 #[test]
 fn an_end_takes_no_memory(rt: HostRuntime) -> Result<(), Fail> {
-    let mut cell = Cell::new(rt.alloc(), 0, 1, 16, 1000)?;
+    let mut cell = Cell::new(rt.alloc(), 0, 1, 16, Bound::without_budget(1000))?;
     let first = Name::new(b"t");
     let second = Name::new(b"u");
     fill(&rt, rt.alloc(), &mut cell);
@@ -108,7 +108,7 @@ fn fill_trail(rt: &impl Abort, alloc: Global, cell: &mut Cell) {
 
 #[test]
 fn a_full_trail_takes_no_memory(rt: HostRuntime) -> Result<(), Fail> {
-    let mut cell = Cell::new(rt.alloc(), 0, 1, 1, 1000)?;
+    let mut cell = Cell::new(rt.alloc(), 0, 1, 1, Bound::without_budget(1000))?;
     fill_trail(&rt, rt.alloc(), &mut cell);
     Ok(())
 }
@@ -125,7 +125,7 @@ fn begin(rt: &impl Abort, alloc: Global, cell: &mut Cell) {
 
 #[test]
 fn a_step_without_memory_is_not_begun(rt: HostRuntime) -> Result<(), Fail> {
-    let mut cell = Cell::new(rt.alloc(), 0, 1, 1, 1000)?;
+    let mut cell = Cell::new(rt.alloc(), 0, 1, 1, Bound::without_budget(1000))?;
     begin(&rt, rt.alloc(), &mut cell);
     Ok(())
 }

@@ -3,6 +3,7 @@ ghost use Rattle.sb_host.specs.Opening.{AreNames};
 
 use sb_connection::{Served, serve_one};
 use sb_host::{Host, Hosting, Naming, Opened};
+use sb_tenant::Bound;
 use std::alloc::Global;
 use std::marker::Brand;
 use std::process::Abort;
@@ -30,7 +31,7 @@ fn serve_alone<N: Naming, R: Wait + Abort>(rt: &R, alloc: Global, opened: Opened
 
 #[test]
 fn a_session_is_closed(rt: HostRuntime) -> Result<(), Fail> {
-    let opened = Opened::new(rt.alloc(), 2, 2, 1000)?;
+    let opened = Opened::new(rt.alloc(), 2, 2, Bound::without_budget(1000))?;
     serve_alone::<Brand, _>(&rt, rt.alloc(), opened);
     Ok(())
 }

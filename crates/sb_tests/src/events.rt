@@ -1,7 +1,7 @@
 //! A list of events of two tenants, answered by one call of a cell.
 
 use sb_cell::{Cell, Event, StepError};
-use sb_tenant::{Answer, Line};
+use sb_tenant::{Answer, Bound, Line};
 use sb_wire::write_bare_reply;
 use std::alloc::Global;
 use std::process::Abort;
@@ -106,7 +106,7 @@ fn check(rt: &impl Abort, alloc: Global, cell: &mut Cell, events: &[Event]) {
 
 #[test]
 fn events_are_answered(rt: HostRuntime) -> Result<(), Fail> {
-    let mut cell = Cell::new(rt.alloc(), 0, 1, 16, 3)?;
+    let mut cell = Cell::new(rt.alloc(), 0, 1, 16, Bound::without_budget(3))?;
     let events = events(&rt, rt.alloc());
     check(&rt, rt.alloc(), &mut cell, events.as_slice());
     Ok(())

@@ -3,6 +3,7 @@ ghost use Rattle.sb_host.specs.Opening.{AreNames};
 
 use sb_host::{Calling, FinishError, Host, Hosting, Naming, Opened};
 use sb_replay::{ReplayError, replay};
+use sb_tenant::Bound;
 use std::alloc::Global;
 use std::marker::Brand;
 use std::process::Abort;
@@ -67,14 +68,14 @@ fn fail_behind<N: Naming + Send + Sync, R: Threads + Wait + Abort + Clock + Sync
 
 #[test]
 fn an_open_session_is_not_attached(rt: HostRuntime) -> Result<(), Fail> {
-    let opened = Opened::new(rt.alloc(), 2, 2, 1000)?;
+    let opened = Opened::new(rt.alloc(), 2, 2, Bound::without_budget(1000))?;
     fail_behind::<Brand, _>(&rt, rt.alloc(), opened, false);
     Ok(())
 }
 
 #[test]
 fn lost_receipts_are_missing(rt: HostRuntime) -> Result<(), Fail> {
-    let opened = Opened::new(rt.alloc(), 2, 2, 1000)?;
+    let opened = Opened::new(rt.alloc(), 2, 2, Bound::without_budget(1000))?;
     fail_behind::<Brand, _>(&rt, rt.alloc(), opened, true);
     Ok(())
 }

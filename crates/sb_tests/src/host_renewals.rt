@@ -4,7 +4,7 @@ ghost use Rattle.sb_host.specs.Opening.{AreNames};
 use crate::hosts::finish;
 use sb_cell::Cell;
 use sb_host::{Host, Naming, NotRenewed, Opened, RenewError, Renewal, RenewalError, Stub};
-use sb_tenant::Tenant;
+use sb_tenant::{Bound, Tenant};
 use std::alloc::{AllocError, Global};
 use std::marker::Brand;
 use std::process::Abort;
@@ -36,7 +36,7 @@ fn left<N: Naming, R: Wait + Abort>(
 
 /// The first tenant, made by these lines in a session of its own.
 fn made(rt: &impl Abort, alloc: Global, lines: &[&[u8]]) -> Result<Tenant, AllocError> {
-    let mut cell = Cell::new(alloc, 0, 1, 1, 1000)?;
+    let mut cell = Cell::new(alloc, 0, 1, 1, Bound::without_budget(1000))?;
     assert!(rt; cell.step(alloc, 0, 0, b"open").is_ok());
     for line in lines {
         assert!(rt; cell.step(alloc, 0, 0, line).is_ok());
@@ -114,6 +114,6 @@ fn serve<N: Naming, R: Wait + Abort>(rt: &R, alloc: Global, opened: Opened) -> R
 
 #[test]
 fn a_hosts_tenant_is_renewed(rt: HostRuntime) -> Result<(), Fail> {
-    let opened = Opened::new(rt.alloc(), 1, 1, 1000)?;
+    let opened = Opened::new(rt.alloc(), 1, 1, Bound::without_budget(1000))?;
     serve::<Brand, _>(&rt, rt.alloc(), opened)
 }

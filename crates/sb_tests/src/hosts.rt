@@ -7,7 +7,7 @@ use sb_host::{
     AttachError, CallError, Calling, FinishError, Host, Hosting, Naming, NoGate, Opened, Report,
     Session, Stub,
 };
-use sb_tenant::{Answer, Reply};
+use sb_tenant::{Answer, Bound, Reply};
 use sb_value::Refusal;
 use sb_wire::write_bare_reply;
 use std::alloc::Global;
@@ -133,7 +133,7 @@ fn serve<N: Naming, R: Wait + Abort>(rt: &R, alloc: Global, opened: Opened)
 
 #[test]
 fn a_session_is_served(rt: HostRuntime) -> Result<(), Fail> {
-    let opened = Opened::new(rt.alloc(), 1, 1, 1000)?;
+    let opened = Opened::new(rt.alloc(), 1, 1, Bound::without_budget(1000))?;
     serve::<Brand, _>(&rt, rt.alloc(), opened);
     Ok(())
 }
@@ -243,7 +243,7 @@ fn lose_receipts_of_new<N: Naming, R: Wait + Abort>(rt: &R, alloc: Global, opene
 
 #[test]
 fn lost_receipts_are_told(rt: HostRuntime) -> Result<(), Fail> {
-    let opened = Opened::new(rt.alloc(), 2, 2, 1000)?;
+    let opened = Opened::new(rt.alloc(), 2, 2, Bound::without_budget(1000))?;
     lose_receipts_of_new::<Brand, _>(&rt, rt.alloc(), opened);
     Ok(())
 }

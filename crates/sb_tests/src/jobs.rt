@@ -4,6 +4,7 @@ ghost use Rattle.sb_host.specs.Opening.{AreNames};
 use crate::hosts::{attach, finish, is_ok};
 use sb_host::{CallError, Calling, Gate, Host, Hosting, Naming, Opened, Stub};
 use sb_replay::{Done, Job, Pool, PoolError};
+use sb_tenant::Bound;
 use sb_value::SessionId;
 use std::alloc::Global;
 use std::marker::Brand;
@@ -178,7 +179,7 @@ fn overlap<N: Naming + Send + Sync, R: Threads + Wait + Sync + Abort>(
 
 #[test]
 fn calls_in_two_cells_overlap(rt: HostRuntime) -> Result<(), Fail> {
-    let opened = Opened::new(rt.alloc(), 2, 2, 1000)?;
+    let opened = Opened::new(rt.alloc(), 2, 2, Bound::without_budget(1000))?;
     overlap::<Brand, _>(&rt, rt.alloc(), opened);
     Ok(())
 }

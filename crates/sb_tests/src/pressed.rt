@@ -4,6 +4,7 @@ ghost use Rattle.sb_host.specs.Opening.{AreNames};
 use crate::hosts::lose_receipts;
 use crate::jobs::run_alone;
 use sb_host::{Host, Naming, NoGate, Opened};
+use sb_tenant::Bound;
 use std::alloc::Global;
 use std::marker::Brand;
 use std::process::Abort;
@@ -32,14 +33,14 @@ fn run_new<N: Naming + Send + Sync, R: Threads + Wait + Sync + Abort>(
 
 #[test]
 fn sessions_lack_memory(rt: HostRuntime) {
-    if let Ok(opened) = Opened::new(rt.alloc(), 2, 2, 1000) {
+    if let Ok(opened) = Opened::new(rt.alloc(), 2, 2, Bound::without_budget(1000)) {
         lose_receipts_of_new::<Brand, _>(&rt, rt.alloc(), opened);
     }
 }
 
 #[test]
 fn jobs_lack_memory(rt: HostRuntime) {
-    if let Ok(opened) = Opened::new(rt.alloc(), 2, 2, 1000) {
+    if let Ok(opened) = Opened::new(rt.alloc(), 2, 2, Bound::without_budget(1000)) {
         run_new::<Brand, _>(&rt, rt.alloc(), opened);
     }
 }

@@ -2,7 +2,7 @@
 ghost use Rattle.std.specs.Prelude.{◌<◌, ◌≤◌};
 
 use sb_cell::{Cell, RenewalError};
-use sb_tenant::{Reply, Tenant};
+use sb_tenant::{Bound, Reply, Tenant};
 use std::alloc::{AllocError, Global};
 use std::process::Abort;
 use std::test::Fail;
@@ -38,7 +38,7 @@ fn made(
 ) -> Result<Tenant, AllocError>
     requires { (tenant < 256) × (bound ≤ 1000) }
 {
-    let mut cell = Cell::new(alloc, tenant, 256, tenant + 1, bound)?;
+    let mut cell = Cell::new(alloc, tenant, 256, tenant + 1, Bound::without_budget(bound))?;
     play(rt, alloc, &mut cell, tenant, &[b"open"]);
     play(rt, alloc, &mut cell, tenant, lines);
     play(rt, alloc, &mut cell, tenant, &[b"end"]);
@@ -59,7 +59,7 @@ fn is_refused(cell: &mut Cell, alloc: Global, fresh: Tenant, error: RenewalError
 
 /// A cell of two tenants, of which the second one is in use.
 fn in_use(rt: &impl Abort, alloc: Global) -> Result<Cell, AllocError> {
-    let mut cell = Cell::new(alloc, 0, 1, 2, 1000)?;
+    let mut cell = Cell::new(alloc, 0, 1, 2, Bound::without_budget(1000))?;
     play(rt, alloc, &mut cell, 0, &[b"open"]);
     play(rt, alloc, &mut cell, 1, &[b"open"]);
     play(rt, alloc, &mut cell, 1, LINES);
