@@ -593,8 +593,9 @@ def cannot_be(program, room):
     for words, shape in ((("--bound", "7"), {}), ((), {"tenants": 15}), ((), {})):
         refuses("another server has it open", folder, *words, **shape)
     need(server.end()[0] == 0, "a server beside whom others were refused")
-    refuses("journal.000001 is of 16 tenants and bound 1000", folder, "--bound", "7")
-    refuses("journal.000001 is of 16 tenants and bound 1000", folder, tenants=15)
+    refuses("journal.000001 is of 16 tenants, bound 1000", folder, "--bound", "7")
+    refuses("journal.000001 is of 16 tenants, bound 1000", folder, tenants=15)
+    refuses("journal.000001 is of 16 tenants, bound 1000", folder, "--step-work", "1000")
     data = bytes_of(newest(folder))
     os.mkdir(other)
     write_segment(os.path.join(other, "next"), 2, 7, 16, [])

@@ -26,6 +26,7 @@ HELPS = pathlib.Path(__file__).resolve().parent / "help"
 ALLOWED = {
     "tenants": "1 to 256",
     "bound": "1 to 1000",
+    "step-work": "1 to 4294967295",
     "tenant": "0 to 255",
     "into": "a folder, without --tenant",
     "cells": "1 to 16",
@@ -51,6 +52,8 @@ PAST = [
     ("--tenants 257", ""),
     ("--bound 0", "replay"),
     ("--bound 1001", "run"),
+    ("--step-work 0", "run"),
+    ("--step-work 4294967296", "serve"),
     ("--cells 0", "serve"),
     ("--cells 17", "replay"),
     ("--workers 0", "replay"),
@@ -172,7 +175,8 @@ UNREAD = [
 # The greatest numbers and the least.
 AT_THE_ENDS = [
     "run --tenants 256 --bound 1000",
-    "run --tenants 1 --bound 1",
+    "run --tenants 1 --bound 1 --step-work 1",
+    "run --step-work 4294967295",
     "replay --tenants 256 --bound 1000 --cells 16 --workers 16",
     "replay --tenants 1 --bound 1 --cells 1 --workers 1",
 ]
