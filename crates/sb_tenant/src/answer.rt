@@ -62,7 +62,7 @@ impl Store {
         alloc: Global,
         log: &mut L,
         index: &mut RuleIndex,
-        asker: &Asker<'_>,
+        asker: &Asker<'_, '_>,
     ) -> Replies
         requires stand { (state : State) × StandFor self.old (L.records log.old) (L.clock log.old) index.old state }
         requires bound { asker.now.bound.considerations ≤ 1000 }
@@ -132,7 +132,7 @@ impl Store {
         alloc: Global,
         log: &mut L,
         index: &mut RuleIndex,
-        asker: &Asker<'_>,
+        asker: &Asker<'_, '_>,
         command: Command,
     ) -> Replies
         requires stand { (state : State) × StandFor self.old (L.records log.old) (L.clock log.old) index.old state }

@@ -6,9 +6,9 @@ use sb_value::SessionId;
 
 /// The session whose line is answered, how much the step may do, the line, and who watches the step.
 #[derive(Drop)]
-pub(crate) struct Asker<'a> {
+pub(crate) struct Asker<'a, 'w> {
     pub(crate) session: SessionId,
     pub(crate) bound: Bound,
     pub(crate) line: &'a [u8],
-    pub(crate) watch: Option<&'a StepWatch>,
+    pub(crate) watch: Option<&'w StepWatch>,
 }

@@ -41,7 +41,7 @@ impl Store {
         alloc: Global,
         log: &mut L,
         index: &RuleIndex,
-        asker: &Asker<'_>,
+        asker: &Asker<'_, '_>,
         eligible: RuleSet,
         finish: Finish,
     ) -> Replies

@@ -53,10 +53,10 @@ pub struct NotBegun;
 
 /// A line that was sent, the same where it is in memory already, and who watches its step.
 #[derive(Drop)]
-pub struct Sent<'a> {
+pub struct Sent<'a, 'w> {
     pub line: &'a [u8],
     pub own: Option<&'a Line>,
-    pub watch: Option<&'a StepWatch>,
+    pub watch: Option<&'w StepWatch>,
 }
 
 /// A database of its own, with the trail of its steps.
@@ -296,7 +296,7 @@ impl Tenant {
         log: &mut L,
         index: &mut RuleIndex,
         session: SessionId,
-        sent: &Sent<'_>,
+        sent: &Sent<'_, '_>,
     ) -> Result<Answer, NotBegun>
         requires own { IfSome sent.now.own (λ l. l.now ≡ sent.now.line.now) }
         requires in_step { InStep self.old (L.records log.old) (L.clock log.old) index.old }
@@ -411,7 +411,7 @@ impl Tenant {
         log: &mut L,
         index: &mut RuleIndex,
         session: SessionId,
-        sent: &Sent<'_>,
+        sent: &Sent<'_, '_>,
     ) -> Result<Answer, NotBegun>
         requires own { IfSome sent.now.own (λ l. l.now ≡ sent.now.line.now) }
         requires in_step { InStep self.old (L.records log.old) (L.clock log.old) index.old }

@@ -31,7 +31,7 @@ impl Store {
         alloc: Global,
         log: &mut L,
         index: &RuleIndex,
-        asker: &Asker<'_>,
+        asker: &Asker<'_, '_>,
         command: TransactionCommand,
     ) -> Replies
         requires stand { (state : State) × StandFor self.old (L.records log.old) (L.clock log.old) index.now state }
