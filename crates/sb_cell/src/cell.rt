@@ -250,9 +250,9 @@ impl Cell {
             watch: Some(&self.watch),
         };
         self.watch.begin(tenant, session);
-        let stepped = self.tenants[place].step(alloc, &mut self.log, &mut self.index, session, &sent);
+        let made = self.tenants[place].step(alloc, &mut self.log, &mut self.index, session, &sent);
         self.watch.finish();
-        match stepped {
+        match made {
             Ok(answer) => Ok(answer),
             Err(_) => Err(StepError::NotBegun),
         }

@@ -30,7 +30,7 @@ pub use sb_cell::RenewalError;
 pub use sb_desk::{
     AttachError, CallError, Calling, Gate, Hosting, Naming, NoGate, Receipt, Receipts, Stub,
 };
-pub use sb_tenant::{RunningStep, StepWatch};
+pub use sb_tenant::{RunningConsideration, RunningStep, StepWatch};
 pub use sb_value::{SESSION_LIMIT, SessionId, TenantId};
 pub use session::Session;
 pub use tenant_renewal::{NotRenewed, Renewal, Renewing};

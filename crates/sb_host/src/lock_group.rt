@@ -9,8 +9,7 @@ ghost use Rattle.sb_host.specs.Renewing.{IsOpening, KeepsRows, VolumeIsRenewed, 
 
 use crate::finish::put;
 use crate::locks::{
-    Lock, Reach, admit_in, enter_in, leave_in, limit_in, read_in, renew_in, try_read_in,
-    watch_in,
+    Lock, Reach, admit_in, enter_in, leave_in, limit_in, read_in, renew_in, try_read_in, watch_in,
 };
 use crate::opening::{HostSize, open_desk};
 use crate::reading::Reading;

@@ -5,10 +5,11 @@ ghost use Rattle.sb_status.specs.declared.text.Escaping.TheVariants as escaping;
 
 use crate::refusal_names::refusal_name;
 use crate::renewal_board::RenewalBoard;
+use crate::running_steps::LongStep;
 use sb_server::{Cause, Count, LIMITS, ServerMetrics, SlowLine};
 use sb_status::{
     Activity, Bucket, Histogram, HostNumbers, HostView, Refused, RenewalNumbers, Rollbacks,
-    SlowView, TenantNumbers, WorkerNumbers, host_page, metrics,
+    RunningStepView, SlowView, TenantNumbers, WorkerNumbers, host_page, metrics,
 };
 use std::alloc::{AllocError, Global};
 use std::sync::Wait;
@@ -36,6 +37,8 @@ pub(crate) struct Overview {
     pub(crate) tenants: Vec<TenantNumbers>,
     pub(crate) host: HostNumbers<'static>,
     pub(crate) counted: Counted,
+    pub(crate) first_tenant: u32,
+    pub(crate) running: Vec<LongStep>,
 }
 
 impl Overview {
@@ -44,21 +47,35 @@ impl Overview {
         ensures { IfOk result (λ page. IsPage escaping.Html page.items) }
     {
         let slowest = self.counted.slowest(alloc)?;
-        host_page(alloc, self.view(slowest.as_slice()))
+        let running = self.running(alloc)?;
+        host_page(alloc, self.view(slowest.as_slice(), running.as_slice()))
     }
 
     /// Its samples.
     pub(crate) fn samples(&self, alloc: Global) -> Result<Vec<u8>, AllocError>
         ensures { IfOk result (λ samples. IsPage escaping.Label samples.items) }
     {
-        metrics(alloc, self.view(&[]))
+        metrics(alloc, self.view(&[], &[]))
     }
 
-    /// All of it, with these lines.
-    fn view<'v>(&'v self, slowest: &'v [SlowView<'v>]) -> HostView<'v> {
+    /// The steps that run for long.
+    fn running(&self, alloc: Global) -> Result<Vec<RunningStepView<'_>>, AllocError> {
+        let mut views = Vec::new(alloc);
+        for step in self.running.as_slice() {
+            views.push(step.view(self.first_tenant))?;
+        }
+        Ok(views)
+    }
+
+    /// All of it, with these lines and steps.
+    fn view<'v>(
+        &'v self,
+        slowest: &'v [SlowView<'v>],
+        running: &'v [RunningStepView<'v>],
+    ) -> HostView<'v> {
         HostView {
             host: self.host,
-            activity: self.counted.activity(slowest),
+            activity: self.counted.activity(slowest, running),
             tenants: self.tenants.as_slice(),
         }
     }
@@ -112,8 +129,12 @@ impl Counted {
         Ok(views)
     }
 
-    /// All of it, with these lines.
-    fn activity<'v>(&'v self, slowest: &'v [SlowView<'v>]) -> Activity<'v> {
+    /// All of it, with these lines and steps.
+    fn activity<'v>(
+        &'v self,
+        slowest: &'v [SlowView<'v>],
+        running: &'v [RunningStepView<'v>],
+    ) -> Activity<'v> {
         Activity {
             workers: self.workers.as_slice(),
             considerations: self.considerations,
@@ -126,6 +147,7 @@ impl Counted {
                 micros: self.micros,
             },
             slowest,
+            running,
         }
     }
 }

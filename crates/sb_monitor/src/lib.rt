@@ -30,13 +30,13 @@ mod tenant_renewals;
 mod tenant_script;
 
 pub use event_log::EventLog;
-pub use running_steps::RunningSteps;
 pub use housekeeping::{Chore, Housekeeping, IdleRenewals, LongStop, NoChore};
 pub use journal_hook::{JournalHook, SyncedChore};
 pub use listener::{ListenError, is_closed, listen};
 pub use memory::memory_file;
 pub use pages::Pages;
 pub use renewal_board::RenewalBoard;
+pub use running_steps::RunningSteps;
 pub use server_control::{ServerControl, ServerControls, ServerSize};
 pub use session_board::SessionBoard;
 pub use status_port::{SideTask, StatusPort, serve_beside, work_beside};

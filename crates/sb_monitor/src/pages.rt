@@ -14,6 +14,7 @@ use crate::http_outcome::{HttpRefusal, Outcome, Shown, has_body};
 use crate::memory::resident;
 use crate::page_access::is_let_in;
 use crate::renewal_board::RenewalBoard;
+use crate::running_steps::long_steps;
 use crate::sender::Sender;
 use crate::server_control::{ServerControl, ServerControls};
 use crate::session_board::SessionBoard;
@@ -229,6 +230,8 @@ impl<'k, H: Lending, A: Admission, T: Wait + Clock, E: ServerControl> Pages<'k, 
             tenants: self.all_numbers(cache)?,
             host: self.host_numbers(),
             counted: Counted::read(self.rt, self.alloc, self.server_metrics, self.renewal_board)?,
+            first_tenant: self.first_tenant,
+            running: long_steps(self.alloc, self.host)?,
         })
     }
 

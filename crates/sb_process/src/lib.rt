@@ -35,7 +35,7 @@ pub use memory_use::MemoryUse;
 pub use process::{AssertionPoint, Rules};
 use sb_value::{Refusal, RuleId, Verdict};
 use std::marker::Model;
-pub use step_watch::{RunningStep, StepWatch};
+pub use step_watch::{RunningConsideration, RunningStep, StepWatch};
 pub use transactions::Transactions;
 
 /// The end of rule processing.

@@ -31,20 +31,22 @@ pub struct Rules<'a> {
 
 /// An assertion point of a session: the rules that are eligible there, and how many may be considered.
 #[derive(Drop)]
-pub struct AssertionPoint<'a> {
+pub struct AssertionPoint<'a, 'w> {
     pub session: SessionId,
+    /// The line that is answered.
+    pub line: &'a [u8],
     pub eligible: RuleSet,
     /// The consideration limit.
     pub bound: u32,
     /// Who is told of each consideration, and may end the step.
-    pub watch: Option<&'a StepWatch>,
+    pub watch: Option<&'w StepWatch>,
 }
 
-impl<'a> AssertionPoint<'a> {
+impl<'a, 'w> AssertionPoint<'a, 'w> {
     /// Tells that a rule is considered next. Error: the step is to end.
     fn note(&self, rule: &Rule) -> Result<(), AllocError> {
         match self.watch {
-            Some(watch) if !watch.goes_on(&rule.name) => Err(AllocError),
+            Some(watch) if !watch.goes_on(&rule.name, self.line) => Err(AllocError),
             _ => Ok(()),
         }
     }
@@ -72,7 +74,7 @@ impl Database {
         alloc: Global,
         log: &mut L,
         rules: &Rules<'_>,
-        point: &AssertionPoint<'_>,
+        point: &AssertionPoint<'_, '_>,
     ) -> Result<Processed, AllocError>
         requires work { IsAtWork self.old point.now.session (L.records log.old) (L.clock log.old) rules.now }
         requires rules { CanRun self.old.tables rules.now.catalog.now }
@@ -119,7 +121,7 @@ impl Database {
         alloc: Global,
         log: &mut L,
         rules: &Rules<'_>,
-        point: &AssertionPoint<'_>,
+        point: &AssertionPoint<'_, '_>,
         trace: &mut Vec<(RuleId, Verdict)>,
     ) -> Result<Outcome, AllocError>
         requires work { IsAtWork self.old point.now.session (L.records log.old) (L.clock log.old) rules.now }

@@ -14,14 +14,65 @@ const RUNS: u64 = 1 << WHO_BITS;
 
 const SERIAL: u64 = RUNS << 1;
 
-/// What threads share of a step. A word names it: its serial number, whether it runs, its tenant and its session.
+/// How many bytes of a line are shown at most.
+const SHOWN_LIMIT: usize = 64;
+
+/// The first bytes of a line.
+#[derive(Clone, Copy)]
+pub struct LineStart {
+    bytes: [u8; SHOWN_LIMIT],
+    len: usize,
+}
+
+impl LineStart {
+    /// The first 64 bytes of a line, or the whole line.
+    fn new(line: &[u8]) -> LineStart {
+        let mut bytes = [0; SHOWN_LIMIT];
+        let mut len = 0;
+        for (place, byte) in bytes.iter_mut().zip(line) {
+            *place = *byte;
+            len += 1;
+        }
+        LineStart { bytes, len }
+    }
+
+    /// Its bytes.
+    pub fn as_slice(&self) -> &[u8] {
+        match self.bytes.get(..self.len) {
+            Some(bytes) => bytes,
+            None => &[],
+        }
+    }
+}
+
+/// The consideration that a step makes, or made last.
+#[derive(Clone, Copy)]
+pub struct RunningConsideration {
+    pub rule: Name,
+    /// The line at whose assertion point the rule is considered.
+    pub line: LineStart,
+}
+
+/// The newest consideration, and the word of its step.
+#[derive(Clone, Copy)]
+struct NewestConsideration {
+    word: u64,
+    consideration: RunningConsideration,
+}
+
+/// The parts of a step that threads share. A word names the step: its serial number, whether it runs, its tenant and its
+/// session.
 #[derive(Drop)]
 struct Shared {
     step: AtomicU64,
     /// The word of the step that is to end.
     to_end: AtomicU64,
     considered: AtomicU64,
-    rule: Mutex<Option<Name>>,
+    newest: Mutex<Option<NewestConsideration>>,
+    /// The word of the step that ran at the last look.
+    seen: AtomicU64,
+    /// How many looks before the last one saw that step.
+    looks: AtomicU64,
 }
 
 /// Tells other threads how far the step of a cell is, and lets them end it. Its copies are one. Nothing rests on what it
@@ -41,6 +92,8 @@ pub struct RunningStep {
     pub session: u32,
     /// How many rules it has considered, with the one that it considers.
     pub considered: u64,
+    /// How many looks before the last one saw it: about its seconds, where there is a look a second.
+    pub seconds: u64,
 }
 
 impl StepWatch {
@@ -50,7 +103,9 @@ impl StepWatch {
             step: AtomicU64::new(0),
             to_end: AtomicU64::new(0),
             considered: AtomicU64::new(0),
-            rule: Mutex::new(None),
+            newest: Mutex::new(None),
+            seen: AtomicU64::new(0),
+            looks: AtomicU64::new(0),
         };
         Ok(StepWatch {
             shared: Arc::new(alloc, shared)?,
@@ -80,13 +135,21 @@ impl StepWatch {
         self.shared.step.store(word & !RUNS, Ordering::SeqCst);
     }
 
-    /// Tells that a rule is considered next. False if the step is to end.
-    pub(crate) fn goes_on(&self, rule: &Name) -> bool {
+    /// Tells that a rule is considered next, at this line. False if the step is to end.
+    pub(crate) fn goes_on(&self, rule: &Name, line: &[u8]) -> bool {
         self.shared.considered.fetch_add(1, Ordering::SeqCst);
-        if let Some(mut shown) = self.shared.rule.try_lock() {
-            *shown = Some(*rule);
-        }
         let word = self.shared.step.load(Ordering::SeqCst);
+        if let Some(mut newest) = self.shared.newest.try_lock() {
+            let line = match &*newest {
+                Some(before) if before.word == word => before.consideration.line,
+                _ => LineStart::new(line),
+            };
+            let consideration = RunningConsideration { rule: *rule, line };
+            *newest = Some(NewestConsideration {
+                word,
+                consideration,
+            });
+        }
         self.shared.to_end.load(Ordering::SeqCst) != word
     }
 
@@ -96,19 +159,39 @@ impl StepWatch {
         if word & RUNS == 0 {
             return None;
         }
+        let seconds = match self.shared.seen.load(Ordering::SeqCst) == word {
+            true => self.shared.looks.load(Ordering::SeqCst),
+            false => 0,
+        };
         Some(RunningStep {
             word,
             tenant: ((word >> SESSION_BITS) % 256) as u32,
             session: (word % 8) as u32,
             considered: self.shared.considered.load(Ordering::SeqCst),
+            seconds,
         })
     }
 
-    /// The rule that is considered, or was last.
-    pub fn rule(&self) -> Option<Name> {
-        match self.shared.rule.try_lock() {
-            Some(shown) => *shown,
-            None => None,
+    /// Looks at the step that runs, if one does, and counts the look. One thread does so, about once a second.
+    pub fn look(&self) -> Option<RunningStep> {
+        let mut step = self.running()?;
+        if self.shared.seen.swap(step.word, Ordering::SeqCst) == step.word {
+            step.seconds = self
+                .shared
+                .looks
+                .fetch_add(1, Ordering::SeqCst)
+                .wrapping_add(1);
+        } else {
+            self.shared.looks.store(0, Ordering::SeqCst);
+        }
+        Some(step)
+    }
+
+    /// The newest consideration of a step, unless the step is over, has none, or tells of one just now.
+    pub fn consideration(&self, step: &RunningStep) -> Option<RunningConsideration> {
+        match self.shared.newest.try_lock()?.as_ref()? {
+            newest if newest.word == step.word => Some(newest.consideration),
+            _ => None,
         }
     }
 

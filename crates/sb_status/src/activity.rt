@@ -3,7 +3,7 @@
 use crate::fragment::Fragment;
 use crate::markup::Markup;
 use crate::page::Page;
-use crate::view::{Activity, Refused, Rollbacks, SlowView, WorkerNumbers};
+use crate::view::{Activity, Refused, Rollbacks, RunningStepView, SlowView, WorkerNumbers};
 use std::alloc::AllocError;
 
 /// The marks of a row of two cells.
@@ -145,6 +145,30 @@ pub(crate) fn write_slowest<'v>(
         write_seconds(page, line.micros)?;
         page.mark(Markup::PreCell)?;
         page.text(line.line)?;
+        page.mark(Markup::PreRowEnd)?;
+    }
+    page.mark(Markup::TableEnd)
+}
+
+/// Writes the steps that run for long, if there are some.
+pub(crate) fn write_running<'v>(
+    page: &mut Page<'v>,
+    steps: &'v [RunningStepView<'v>],
+) -> Result<(), AllocError> {
+    if steps.is_empty() {
+        return Ok(());
+    }
+    page.mark(Markup::RunningHead)?;
+    for step in steps {
+        page.count(Markup::TenantLink, step.tenant)?;
+        page.count(Markup::LinkText, step.tenant)?;
+        page.mark(Markup::LinkEnd)?;
+        page.count(Markup::Cell, step.session)?;
+        page.cells(&[step.seconds, step.considered])?;
+        page.mark(Markup::Cell)?;
+        page.text(step.rule)?;
+        page.mark(Markup::PreCell)?;
+        page.text(step.line)?;
         page.mark(Markup::PreRowEnd)?;
     }
     page.mark(Markup::TableEnd)

@@ -3,7 +3,9 @@ ghost use Rattle.std.specs.Prelude.{IfOk};
 ghost use Rattle.sb_status.specs.Pages.{IsPage};
 ghost use Rattle.sb_status.specs.declared.text.Escaping.TheVariants as escaping;
 
-use crate::activity::{write_refusals, write_rollbacks, write_slowest, write_sums, write_workers};
+use crate::activity::{
+    write_refusals, write_rollbacks, write_running, write_slowest, write_sums, write_workers,
+};
 use crate::markup::Markup;
 use crate::page::Page;
 use crate::size::write_size;
@@ -29,6 +31,7 @@ pub fn host_page(alloc: Global, view: HostView<'_>) -> Result<Vec<u8>, AllocErro
     let mut page = Page::new(alloc);
     page.mark(Markup::Head)?;
     write_facts(&mut page, host, activity)?;
+    write_running(&mut page, activity.running)?;
     write_tenants(&mut page, tenants)?;
     write_workers(&mut page, activity.workers)?;
     write_rollbacks(&mut page, activity.rollbacks)?;

@@ -50,6 +50,6 @@ pub use tenant_counts::{Counting, SessionReading};
 pub use text::Escaping;
 pub use view::{
     Activity, Bucket, ColumnView, Histogram, HostNumbers, HostView, Refused, RenewalNumbers,
-    Rollbacks, RuleView, RulesetView, SessionState, SessionView, SlowView, TableView,
-    TenantNumbers, TenantView, TriggersView, WorkerNumbers,
+    Rollbacks, RuleView, RulesetView, RunningStepView, SessionState, SessionView, SlowView,
+    TableView, TenantNumbers, TenantView, TriggersView, WorkerNumbers,
 };

@@ -441,6 +441,13 @@ pub(crate) const SLOWEST_HEAD: &str = "\
 <tbody>
 ";
 
+pub(crate) const RUNNING_HEAD: &str = "\
+<h2>Running for more than a second</h2>
+<div class=\"wide\"><table>
+<thead><tr><th>tenant</th><th>session</th><th class=\"n\">seconds</th><th class=\"n\">considerations</th><th>rule</th><th>line</th></tr></thead>
+<tbody>
+";
+
 pub(crate) const PRE_CELL: &str = "</td><td><pre>";
 
 pub(crate) const PRE_ROW_END: &str = "</pre></td></tr>\n";

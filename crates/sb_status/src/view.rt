@@ -108,6 +108,20 @@ pub struct SlowView<'a> {
     pub line: &'a [u8],
 }
 
+/// A step that has run for more than a second, and runs.
+#[derive(Clone, Copy)]
+pub struct RunningStepView<'a> {
+    pub tenant: u64,
+    pub session: u64,
+    pub seconds: u64,
+    /// How many rules it has considered.
+    pub considered: u64,
+    /// The rule that it considers. Empty where it has considered none.
+    pub rule: &'a [u8],
+    /// The first bytes of its line. Empty where it has considered no rule.
+    pub line: &'a [u8],
+}
+
 /// How many tenants were renewed, and how often one couldn't be.
 #[derive(Clone, Copy)]
 pub struct RenewalNumbers {
@@ -127,6 +141,8 @@ pub struct Activity<'a> {
     pub times: Histogram<'a>,
     /// The lines that took longest, the slowest first.
     pub slowest: &'a [SlowView<'a>],
+    /// The steps that have run for more than a second, by their cells.
+    pub running: &'a [RunningStepView<'a>],
 }
 
 /// What is shown of a server: its numbers, what it has counted, and a row for each of these tenants.

@@ -34,6 +34,6 @@ pub use bound::Bound;
 pub use lines::KnownLines;
 pub use places::reserve_here;
 pub use reply::{Answer, Entry, Line, NamedTrace, Reply, RuleError, RuleName};
-pub use sb_process::{RunningStep, StepWatch};
+pub use sb_process::{RunningConsideration, RunningStep, StepWatch};
 pub use tenant::{END, NotBegun, OPEN, Sent, TRAIL_LIMIT, Tenant};
 pub use volume::Volume;

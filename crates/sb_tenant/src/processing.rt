@@ -63,6 +63,7 @@ impl Store {
     {
         let point = AssertionPoint {
             session: asker.session,
+            line: asker.line,
             eligible,
             bound: asker.bound.considerations,
             watch: asker.watch,
@@ -86,7 +87,7 @@ impl Store {
         alloc: Global,
         log: &mut L,
         index: &RuleIndex,
-        point: &AssertionPoint<'_>,
+        point: &AssertionPoint<'_, '_>,
     ) -> Result<Processed, AllocError>
         requires stand { (state : State) × StandFor self.old (L.records log.old) (L.clock log.old) index.now state }
         requires active { phase_at self.old.phases point.now.session ≡ phase.Active }

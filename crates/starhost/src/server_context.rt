@@ -16,9 +16,9 @@ use sb_backup::{
 };
 use sb_host::{Renewing, Stub};
 use sb_monitor::{
-    Chore, EventLog, Housekeeping, IdleRenewals, LongStop, RunningSteps, NoChore, Pages, RenewalLimits,
-    ServerControls, StatusPort, Supervisor, TenantRenewals, listen, memory_file, serve_beside,
-    work_beside,
+    Chore, EventLog, Housekeeping, IdleRenewals, LongStop, NoChore, Pages, RenewalLimits,
+    RunningSteps, ServerControls, StatusPort, Supervisor, TenantRenewals, listen, memory_file,
+    serve_beside, work_beside,
 };
 use sb_server::{
     Admission, BackgroundTask, CommitHook, NoJournal, NoRenewals, Open, Renewals, ServeError,
@@ -197,10 +197,6 @@ where
         let Ok(saver) = self.saver() else {
             return Err(OUT_OF_MEMORY);
         };
-        let first_tenant = self.plan.terms.first_tenant;
-        let Ok(running_steps) = RunningSteps::new(self.alloc, self.host, self.log, first_tenant) else {
-            return Err(OUT_OF_MEMORY);
-        };
         let config = ServerConfig {
             listener,
             watch: self.log,
@@ -213,7 +209,11 @@ where
         let housekeeping = Housekeeping {
             chore: gate.chore,
             idle_renewals: self.idle_renewals(renewals),
-            running_steps,
+            running_steps: RunningSteps {
+                host: self.host,
+                log: self.log,
+                first_tenant: self.plan.terms.first_tenant,
+            },
             long_stop: self.long_stop(&saver, listener),
         };
         match self.serve_config(&config, port, &housekeeping) {

@@ -69,8 +69,8 @@ answered_for g c =
     (reply_to x.database.id c.self.inside.bound (state (seen c.self.inside)) c.args.session c.args.sent.now.line.now) c.answer-reply.result.0)
     c.limit_memory.ensures
     (
-      let agrees = subst (λ (v : Tenant). InStep v (g.L.ChangeLog.records c.args.log.now) (g.L.ChangeLog.clock c.args.log.now) c.args.index.now) (sym c.self.view_is) c.requires.in_step in
-      c.answer-reply.ensures.answered (state (seen c.self.inside)) (stands_of c.self.inside.store c.limit_memory.new.self _ _ _ (state (seen c.self.inside)) c.limit_memory.ensures c.self.invariant.holds agrees)
+    let agrees = subst (λ (v : Tenant). InStep v (g.L.ChangeLog.records c.args.log.now) (g.L.ChangeLog.clock c.args.log.now) c.args.index.now) (sym c.self.view_is) c.requires.in_step in
+    c.answer-reply.ensures.answered (state (seen c.self.inside)) (stands_of c.self.inside.store c.limit_memory.new.self _ _ _ (state (seen c.self.inside)) c.limit_memory.ensures c.self.invariant.holds agrees)
     )
 
 others : (g : Over) (c : goal.After-put g) → OtherTenantsStay c.self.inside.store.database.id c.args.index.now c.answer-reply.new.index
