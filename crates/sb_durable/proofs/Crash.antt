@@ -5,7 +5,7 @@ use Rattle.sqlite_disk.specs.Disk.{Holds, Torn, Follows, Only}
 use Rattle.sb_durable.specs.Blocks.{body, block, blocks, IsContent, IsBeforeOrAfter, IsLeft}
 use Rattle.sb_durable.specs.Log.{HasAll}
 use Rattle.sb_durable.specs.declared.record_log.RecordLog.{RecordLog}
-use Rattle.sb_durable.proofs.Bytes.{torn_front, torn_byte, written_behind}
+use Rattle.sb_durable.proofs.Torn.{torn_front, torn_byte, written_behind}
 use Rattle.sb_durable.proofs.Contents.{each-push, blocks-push, few_bytes, left_shut, stands_gate}
 
 module _ {D : Type 0} (seen : D → List ℕ) (may_leave : D → List ℕ → Type 0) (log : RecordLog D) (contents : List (List ℕ)) (has : HasAll seen may_leave log contents) where

@@ -5,7 +5,6 @@ pub mod Steps
 pub mod Crashes
 pub mod Records
 pub mod Calls
-mod Bytes
 mod Contents
 mod Crash
 mod Reading

@@ -5,7 +5,7 @@ use Rattle.sqlite_disk.specs.Disk.{Holds, Torn, Cut}
 use Rattle.sb_durable.specs.Blocks.{blocks, IsEnd, IsLeft, IsRemnant, Stands}
 use Rattle.sb_durable.specs.Log.{IsAtRest}
 use Rattle.sb_durable.specs.Ends.{EndsAt}
-use Rattle.sb_durable.proofs.Bytes.{torn_front, cut_front}
+use Rattle.sb_durable.proofs.Torn.{torn_front, cut_front}
 use Rattle.sb_durable.proofs.Walk.{held_front}
 use Rattle.std.proofs.lemmas.Bool.{eq-eqb, false≢true, ne_eqb}
 use Rattle.sb_durable.proofs.Contents.{left_shut}

@@ -1,4 +1,4 @@
--- What a write leaves of the bytes around it.
+-- A write leaves the bytes around it as they were.
 use Rattle.std.proofs.Common.{◌≡◌, ℕ, suc, ◌+◌, ◌-◌, ◌<◌, ◌≤◌, List, [], ◌∷◌, ◌++◌, length, get_or, take, drop, refl, sym, ◌∙◌, ap, inl, inr, arith, length-append, length-drop, append_assoc, take-append-drop, ext_get_or, length-take-le, get_or-take, get_or-drop}
 use Rattle.std.proofs.lemmas.Bool.{cases_lt}
 use Rattle.std.proofs.lemmas.List.{drop_more, drop_at, get_or_append_left, get_or-append_right}

@@ -6,7 +6,7 @@ use Rattle.std.proofs.lemmas.List.{append-nil, drop_at, get_or_append_left}
 use Rattle.sqlite_disk.specs.Disk.{Holds}
 use Rattle.sb_durable.specs.Blocks.{block, blocks, IsCutShort, IsEnd, Stands}
 use Rattle.sb_durable.specs.Ends.{BeginsWith, Walked}
-use Rattle.sb_durable.proofs.Bytes.{same_front}
+use Rattle.sb_durable.proofs.Torn.{same_front}
 use Rattle.sb_durable.proofs.Contents.{each-push, blocks-push}
 use Rattle.sb_durable.proofs.Reading.{same_parts, stands_rest, one_reading}
 

@@ -57,7 +57,7 @@ pub trait BatchJournal {
         ensures { (base : Base) (entries waiting : List Entry) → has self.now base entries waiting
             → (files : List (List ℕ)) → leaves self.now base files → keeps base entries files };
 
-    /// How many more bytes can be staged.
+    /// The number of bytes that can still be staged.
     fn room(&self) -> usize
         ensures { result ≤ 2 ^ 20 };
 

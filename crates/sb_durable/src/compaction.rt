@@ -82,7 +82,7 @@ fn compact_host<N: Naming, T: Wait + Clock + Alloc + Clone + Drop + Files<File =
     }
 }
 
-/// What a compaction works with.
+/// A compaction at work.
 #[derive(Drop)]
 struct Compaction<'c, H, T, O> {
     rt: &'c T,

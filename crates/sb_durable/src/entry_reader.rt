@@ -1,4 +1,4 @@
-//! What a trail has beyond what is recorded, noted while the cell's lock is held.
+//! The entries of a trail beyond those that are recorded, noted while the cell's lock is held.
 ghost use Rattle.std.specs.Prelude.{◌≡◌, [], false, IfOk};
 ghost use Rattle.sb_durable.specs.EntryReaders.{NotesAll, note_of, text_of};
 
@@ -53,7 +53,7 @@ impl PendingEntry {
     }
 }
 
-/// How far the entries were read.
+/// The place up to which the entries were read.
 #[derive(Clone, Copy)]
 pub(crate) enum ReadReach {
     /// There is no tenant, or it doesn't go on where it is recorded.
@@ -68,7 +68,7 @@ pub(crate) enum ReadReach {
 /// Reads the entries of a tenant from where its recording goes on.
 #[derive(Drop)]
 pub(crate) struct EntryReader {
-    /// How far it is recorded; once it is read, where that goes on.
+    /// The place up to which it is recorded; once it is read, the one at which recording goes on.
     pub(crate) start: RecordingStart,
     /// The most bytes of their records.
     pub(crate) room: usize,

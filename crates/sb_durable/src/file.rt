@@ -38,7 +38,7 @@ impl From<io::Error> for OpenError {
     }
 }
 
-/// How a journal begins: an open gate, the length of its head, and the word of its head but for the version.
+/// The beginning of a journal: an open gate, the length of its head, and the word of its head but for the version.
 const BEGINNING: &[u8] = b"\x01\x00\x00\x00\x14FILGJRN";
 
 /// The most bytes of a journal whose head isn't there yet: a shut gate, a length, the head and the next gate.

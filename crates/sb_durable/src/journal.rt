@@ -55,7 +55,7 @@ impl<D: Disk> Journal<D> {
         log.close()
     }
 
-    /// Where the first batch is.
+    /// The place of the first batch.
     pub fn first_place(&self) -> usize
         ensures { (head : TheHead) (entries waiting : List Entry) → Has D.Disk.seen D.Disk.may_leave self.now head entries waiting
             → IsAt D.Disk.seen D.Disk.may_leave self.now head result entries }
@@ -106,7 +106,7 @@ impl<D: Disk> Journal<D> {
         self.log.is_spent()
     }
 
-    /// How many more bytes can be staged.
+    /// The number of bytes that can still be staged.
     pub fn room(&self) -> usize
         ensures { result ≤ 2 ^ 20 }
     {

@@ -1,4 +1,4 @@
-//! What a journal begins with.
+//! A journal begins with a header.
 ghost use Rattle.std.specs.Prelude.{◌≡◌, unwrap_or};
 
 use sb_tenant::Bound;

@@ -17,7 +17,7 @@ use std::alloc::Global;
 pub(crate) struct JournalWriter<B> {
     pub(crate) alloc: Global,
     pub(crate) journal: B,
-    /// How far each tenant is recorded.
+    /// The reach of each tenant: it is recorded so far.
     pub(crate) recorded: Vec<RecordedReach>,
 }
 

@@ -157,7 +157,7 @@ fn is_settled<T: Wait + Files<File = File>, O: Log>(
     }
 }
 
-/// How a run ends: by the journal's fault, if it has one, and else as its stream did.
+/// A run's end: by the journal's fault, if it has one, and else as its stream ended.
 fn end_by<O: Log, D: Disk>(
     log: &O,
     recording: &Recording<D>,

@@ -1,4 +1,4 @@
-//! What an operator reads of a journal.
+//! The lines of the log that tell an operator of a journal.
 
 use sb_words::{Log, Severity};
 use std::fmt::Display;

@@ -1,4 +1,4 @@
-//! What a trail has beyond the journal, read before the journal is locked.
+//! The entries of a trail beyond the journal, read before the journal is locked.
 ghost use Rattle.std.specs.Prelude.{◌≡◌, IfOk, IfSome};
 ghost use Rattle.sb_durable.specs.EntryReaders.{EndsAt, IsNoted};
 
@@ -17,13 +17,13 @@ const ROOM: usize = 1 << 19;
 #[derive(Drop)]
 pub(crate) struct NotedTrail {
     pub(crate) tenant: u32,
-    /// How far it was recorded then.
+    /// Its reach in the journal then.
     pub(crate) recorded: RecordedReach,
     pub(crate) notes: EntryReader,
     ghost read: { ∥ IsNoted tenant recorded notes ∥₁ },
 }
 
-/// Where a tenant's trail ended when it was read.
+/// The end of a tenant's trail when it was read.
 #[derive(Clone, Copy, Debug)]
 pub(crate) struct TrailEnd {
     pub(crate) tenant: u32,
@@ -31,7 +31,7 @@ pub(crate) struct TrailEnd {
 }
 
 impl NotedTrail {
-    /// Reads what a tenant's trail has beyond this place. Errors: Memory; or Unrecorded, where it doesn't go on there.
+    /// Reads the entries of a tenant's trail behind this place. Errors: Memory; or Unrecorded, where it doesn't go on there.
     pub(crate) fn read<H: Lending, T: Wait>(
         rt: &T,
         alloc: Global,
@@ -62,7 +62,7 @@ impl NotedTrail {
         }
     }
 
-    /// Where the trail ends. None if entries follow that weren't read.
+    /// The trail's end. None if entries follow that weren't read.
     pub(crate) fn end(&self) -> Option<TrailEnd>
         ensures { IfSome result (λ end. (end.tenant ≡ self.now.tenant) × EndsAt self.now.notes end.reach) }
     {
@@ -81,7 +81,7 @@ impl NotedTrail {
         })
     }
 
-    /// How many bytes its records have, at most.
+    /// The most bytes that its records may have.
     pub(crate) fn size(&self) -> usize {
         let mut size = RENEWAL_SIZE;
         for note in &self.notes.list {

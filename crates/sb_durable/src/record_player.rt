@@ -32,9 +32,9 @@ pub(crate) struct Player<H: Renewing> {
     bound: Bound,
     /// Eight for each tenant.
     sessions: Vec<Option<H::Session>>,
-    /// What the closed sessions of each tenant have left of its newest trail.
+    /// The receipts of each tenant's closed sessions, of its newest trail.
     stubs: Vec<Vec<Stub>>,
-    /// How far each tenant is played.
+    /// The reach of each tenant: it is played so far.
     reaches: Vec<RecordedReach>,
     ghost few: { bound.considerations ≤ 1000 },
     ghost eight: { length sessions.items ≡ 8 * length reaches.items },
@@ -277,7 +277,7 @@ fn pass_opening(reaches: &mut Vec<RecordedReach>, tenant: usize, opening: u64) -
     }
 }
 
-/// How many receipts these stubs have. None where a count has no room.
+/// The number of receipts that these stubs have. None where a count has no room.
 fn count_receipts(stubs: &[Stub]) -> Option<u64>
     ensures { SomeIff result (receipts_in stubs.now < 2 ^ 64) (receipts_in stubs.now) }
 {

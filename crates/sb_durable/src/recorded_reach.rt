@@ -1,20 +1,20 @@
-//! How far the volumes of a tenant's life are recorded.
+//! A reach says how far the volumes of a tenant's life are recorded.
 ghost use Rattle.std.specs.Prelude.{◌≡◌, ◌^◌, ◌<◌, ◌↔◌, Bool, IfNone, IfSome, IsTrue, SomeIff};
 ghost use Rattle.sb_durable.specs.Recording.{GoesOn, HasRenewed, first_reach, renewed};
 ghost use Rattle.sb_durable.specs.declared.recorded_reach.RecordedReach.{RecordedReach as ItsReach};
 
 use sb_tenant::Volume;
 
-/// How far a tenant is recorded: all volumes before this one, and the first entries of this one.
+/// A tenant is recorded so far: all volumes before this one, and the first entries of this one.
 #[derive(Clone, Copy, Debug)]
 pub struct RecordedReach {
     pub volume: Volume,
-    /// With those of its opening, which are no records.
+    /// Their number, with those of its opening, which are no records.
     pub entries: u32,
 }
 
 impl RecordedReach {
-    /// Before a tenant's first step.
+    /// The place before a tenant's first step.
     pub(crate) fn first() -> RecordedReach
         ensures { result ≡ first_reach }
     {
@@ -28,14 +28,14 @@ impl RecordedReach {
         }
     }
 
-    /// True if it is the same place.
+    /// True if both are one place.
     pub(crate) fn equals(self, other: RecordedReach) -> bool
         ensures { IsTrue result ↔ self ≡ other }
     {
         self.volume == other.volume && self.entries == other.entries
     }
 
-    /// Behind the opening of the next volume, where this one ends here. None where a count has no room.
+    /// The place behind the opening of the next volume, if this one ends here. None where a count has no room.
     pub(crate) fn renewed(self, opening: u64) -> Option<RecordedReach>
         ensures { SomeIff result (HasRenewed self opening) (renewed self opening) }
     {
@@ -50,7 +50,7 @@ impl RecordedReach {
     }
 }
 
-/// Where recording goes on.
+/// The place at which recording goes on.
 #[derive(Clone, Copy, Debug)]
 pub(crate) struct RecordingStart {
     pub(crate) reach: RecordedReach,
@@ -58,8 +58,8 @@ pub(crate) struct RecordingStart {
     pub(crate) is_renewed: bool,
 }
 
-/// Where the recording of a tenant goes on in this volume of its life. None if it isn't the next one of a volume that ends
-/// where it is recorded: then it was renewed before all of its steps were recorded.
+/// The place at which the recording of a tenant goes on in this volume of its life. None if the volume doesn't follow one
+/// that ends at `recorded`: then the tenant was renewed before all of its steps were recorded.
 pub(crate) fn start_in(recorded: RecordedReach, volume: Volume) -> Option<RecordingStart>
     ensures found { IfSome result (λ start. GoesOn recorded start.reach start.is_renewed × (start.reach.volume ≡ volume)) }
     ensures none { IfNone result ((at : ItsReach) (is_renewed : Bool) → at.entries < 2 ^ 32 → at.volume ≡ volume → GoesOn recorded at is_renewed → ⊥) }

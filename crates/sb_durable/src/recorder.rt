@@ -1,4 +1,4 @@
-//! What threads share to record what they are about to answer.
+//! Threads share a recorder: through it they record their steps before they answer them.
 ghost use Rattle.std.specs.Prelude.{◌≡◌, ◌++◌, ◌∷◌, [], IfOk, IsTrue, OnOk};
 ghost use Rattle.std.specs.List.{All};
 ghost use Rattle.sb_durable.specs.EntryReaders.{EndsAt, IsEndOf};
@@ -20,18 +20,18 @@ pub struct Recorder<H: Lending, B> {
     alloc: Global,
     host: H,
     journal_writer: Mutex<JournalWriter<B>>,
-    /// How far each tenant is recorded, for those that haven't locked the journal: so far or further.
+    /// A reach of each tenant, for callers that haven't locked the journal: it is recorded so far or further.
     reaches: Mutex<Vec<RecordedReach>>,
     callers: Mutex<Callers>,
 }
 
-/// What all calls that wait for the journal have read.
+/// The trails that all calls which wait for the journal have read.
 #[derive(Drop)]
 struct Callers {
     trails: Vec<NotedTrail>,
 }
 
-/// What a call has read of its tenants.
+/// The trails that a call has read of its tenants.
 #[derive(Drop)]
 struct ReadTrails {
     trails: Vec<NotedTrail>,
@@ -81,8 +81,8 @@ impl<H: Lending, B: BatchJournal> Recorder<H, B> {
         unreachable!()
     }
 
-    /// Records what is read of these trails. True if that is all of them; else another call has recorded some of it first,
-    /// or it is too much for a batch.
+    /// Reads these trails once and records what it read. True if that is all of them; else another call has recorded some
+    /// of it first, or it is too much for a batch.
     fn keep_some<T: Wait>(&self, rt: &T, tenants: &[u32]) -> Result<bool, JournalError>
         ensures { IfOk result (λ is_kept. IsTrue is_kept → AreKept B.BatchJournal tenants.now) }
     {
@@ -100,7 +100,7 @@ impl<H: Lending, B: BatchJournal> Recorder<H, B> {
         }
     }
 
-    /// Reads what these trails have beyond the journal.
+    /// Reads the entries of these trails beyond the journal.
     fn read<T: Wait>(&self, rt: &T, tenants: &[u32]) -> Result<ReadTrails, JournalError>
         ensures { IfOk result (λ read. IsTrue read.are_whole → (ends_of read.ends.items ≡ tenants.now)
             × All (λ (end : ItsEnd). IsEndOf end.tenant end.reach) read.ends.items) }
@@ -116,8 +116,8 @@ impl<H: Lending, B: BatchJournal> Recorder<H, B> {
         Ok(read)
     }
 
-    /// Reads what a trail has beyond the journal, behind what was read of others. A trail that doesn't go on where it was
-    /// recorded isn't whole: it may be recorded further by now.
+    /// Reads the entries of a trail beyond the journal, and puts them behind those of other trails. A trail that doesn't go
+    /// on where it was recorded isn't whole: it may be recorded further by now.
     fn read_one<T: Wait>(
         &self,
         rt: &T,
@@ -138,7 +138,7 @@ impl<H: Lending, B: BatchJournal> Recorder<H, B> {
         }
     }
 
-    /// How far a tenant is recorded.
+    /// The reach of a tenant: it is recorded so far or further.
     fn reach_of<T: Wait>(&self, rt: &T, tenant: u32) -> Result<RecordedReach, JournalError> {
         let reaches = self.reaches.lock(rt);
         match reaches.get(tenant as usize) {
@@ -154,7 +154,7 @@ impl<H: Lending, B: BatchJournal> Recorder<H, B> {
         journal_writer.is_recorded_to(tenant, reach)
     }
 
-    /// Adds what was read to what waits.
+    /// Adds these trails to those that wait.
     fn join<T: Wait>(&self, rt: &T, trails: Vec<NotedTrail>) -> Result<(), JournalError> {
         let mut callers = self.callers.lock(rt);
         for trail in trails {
@@ -178,7 +178,7 @@ impl<H: Lending, B: BatchJournal> Recorder<H, B> {
         kept
     }
 
-    /// What waits.
+    /// Takes all trails that wait.
     fn take<T: Wait>(&self, rt: &T) -> Callers {
         let mut callers = self.callers.lock(rt);
         let none = Callers {
@@ -187,7 +187,7 @@ impl<H: Lending, B: BatchJournal> Recorder<H, B> {
         mem::replace(&mut *callers, none)
     }
 
-    /// Tells how far the tenants of these trails are recorded.
+    /// Tells the reach of each of these trails' tenants to callers that haven't locked the journal.
     fn publish<T: Wait>(&self, rt: &T, journal_writer: &JournalWriter<B>, trails: &[NotedTrail]) {
         let mut reaches = self.reaches.lock(rt);
         for trail in trails {
@@ -202,7 +202,7 @@ impl<H: Lending, B: BatchJournal> Recorder<H, B> {
     }
 }
 
-/// Adds a trail to what was read, and its end if all of it was.
+/// Adds a trail to those that were read, and its end if all of it was.
 fn add(read: &mut ReadTrails, trail: NotedTrail) -> Result<(), JournalError>
     ensures { OnOk result (IsTrue read.new.are_whole → (end : ItsEnd) × IsTrue read.old.are_whole × (end.tenant ≡ trail.tenant)
         × EndsAt trail.notes end.reach × (read.new.ends.items ≡ read.old.ends.items ++ end ∷ [])) }

@@ -95,7 +95,7 @@ fn leave_gate<D: Disk>(disk: &mut D, end: usize, len: usize) -> io::Result<()>
     disk.set_len(end + 1)
 }
 
-/// Where the blocks of a file end. No content is read.
+/// The place at which the blocks of a file end. No content is read.
 fn find_end<D: Disk>(disk: &mut D, len: usize) -> Result<usize, JournalError>
     requires usable { IsTrue (D.Disk.is_usable disk.old) }
     requires len { IsTrue (D.Disk.is_clean disk.old) → len ≡ length (D.Disk.seen disk.old) }

@@ -30,7 +30,7 @@ pub struct Played {
     /// The receipts of each tenant's newest trail: of its opening, and of all sessions, which are closed.
     pub stubs: Vec<Stub>,
     pub records: u64,
-    /// How far each tenant is recorded: all but the `end` of sessions that the replay closed.
+    /// The reach of each tenant: all is recorded but the `end` of sessions that the replay closed.
     pub recorded: Vec<RecordedReach>,
 }
 

@@ -14,7 +14,7 @@ use std::fs::Files;
 use std::sync::Wait;
 use std::{fmt, fs};
 
-/// What a folder has of a journal.
+/// The contents of a journal's folder.
 #[derive(Clone, Copy, Debug)]
 pub struct JournalSummary {
     pub head: Head,

@@ -218,7 +218,7 @@ impl<D: Disk> RowJournal<D> {
         self.newest.size()
     }
 
-    /// How many more bytes can be staged.
+    /// The number of bytes that can still be staged.
     pub fn room(&self) -> usize
         ensures { result ≤ 2 ^ 20 }
     {

@@ -48,7 +48,7 @@ impl<'r, 'f, 'p, R: Files<File = fs::File>> SegmentFiles<File<Wary>>
 #[derive(Drop)]
 pub(crate) struct OpenedRow<D: Disk> {
     pub journal: RowJournal<D>,
-    /// How many records were replayed.
+    /// The number of records that were replayed.
     pub records: u64,
     /// The file before the newest one, where the newest was begun by this call.
     pub full: Option<D>,

@@ -1,4 +1,4 @@
-//! Which segments of a journal a restart needs.
+//! A restart needs some segments of a journal, and the older ones no more.
 ghost use Rattle.std.specs.Prelude.{◌≡◌, ◌+◌, ◌<◌, ℕ, List, ◌++◌, ◌∷◌, [], length, IfOk, IsTrue, None};
 ghost use Rattle.sb_durable.specs.Records.{Entry};
 ghost use Rattle.sb_durable.specs.SegmentNeeds.{AreNeeds, NobodyNeedsBelow, is_below, need_of, older_of, onward, tenants_of};

@@ -75,7 +75,7 @@ fn offset(at: usize) -> io::Result<u64>
     Ok(at as u64)
 }
 
-/// How many bytes the system has moved, where it has moved some.
+/// The number of bytes that the system has moved, where it has moved some.
 fn some(count: usize, otherwise: io::ErrorKind) -> io::Result<usize>
     ensures { IfOk result (λ n. (n ≡ count) × (0 < n)) }
 {

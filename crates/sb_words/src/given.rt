@@ -1,4 +1,4 @@
-//! What stands for the parts of a command line.
+//! The values that are given for the parts of a command line.
 ghost use Rattle.std.specs.Prelude.{◌≡◌, ◌≤◌, IfSome};
 ghost use Rattle.clap.specs.Words.{rows_of, found_of};
 ghost use Rattle.sb_words.specs.Asking as spec;

@@ -4,7 +4,7 @@ use crate::argument::{Argument, Verb};
 
 pub const VERSION: &str = "starhost 0.1\n";
 
-/// What the program does.
+/// The head of the program's help.
 pub(crate) const ABOUT: &str = "\
 starhost is a server for active databases. Without a command it does what `run` does.
 
@@ -12,7 +12,7 @@ A line of `run` and `replay` is `<tenant> <session> <command>`, and each line of
 begins with the same two numbers. The first line of a connection to `serve` is
 `<tenant> <session>`, each further one is a command, and replies have no numbers.";
 
-/// What stands below the program's help.
+/// The end of the program's help.
 pub(crate) const EXAMPLES: &str = "\
 Examples:
   printf '0 0 open\\n0 0 create table t (a int)\\n0 0 end\\n' | starhost
@@ -28,7 +28,7 @@ and a line `fault: ..` on standard error where it failed; words that aren't allo
 refused with status 2. docs/COMMANDS.md has all commands.";
 
 impl Verb {
-    /// What the command does.
+    /// The command's work, in a sentence.
     pub(crate) fn about<'a>(self) -> &'a str {
         match self {
             Verb::Run => "Answer the lines of standard input, each before more input is read",
@@ -48,7 +48,7 @@ impl Verb {
 }
 
 impl Argument {
-    /// What a part means.
+    /// The meaning of a part, in a sentence.
     pub(crate) fn help<'a>(self) -> &'a str {
         match self {
             Argument::Old => "The journal",
@@ -122,7 +122,7 @@ impl Argument {
         }
     }
 
-    /// What its value is called.
+    /// The name of its value.
     pub(crate) fn value_name<'a>(self) -> &'a str {
         match self {
             Argument::Old => "OLD",

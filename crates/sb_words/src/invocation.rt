@@ -1,4 +1,4 @@
-//! What a command line asks for.
+//! A command line asks for one of these commands, with its options.
 ghost use Rattle.std.specs.Prelude.{◌≡◌, ◌≤◌, IfErr, IfOk, IfSome, None, Some};
 ghost use Rattle.clap.specs.Words.{rows_of, found_of};
 ghost use Rattle.sb_words.specs.Asking as spec;
@@ -130,7 +130,7 @@ pub enum Invocation<'a> {
     Key,
 }
 
-/// What a command asks for, or its first part that isn't allowed.
+/// The meaning of a command, or its first part that isn't allowed.
 pub(crate) fn requested<'a>(
     verb: Verb,
     matches: &ArgMatches<'a>,
@@ -145,7 +145,7 @@ pub(crate) fn requested<'a>(
     }
 }
 
-/// What a command asks for by its options.
+/// The meaning of a command with its options.
 fn asked_by<'a>(matches: &ArgMatches<'a>, verb: Verb) -> Invocation<'a>
     requires { AreAllowed (rows_of (found_of matches.now)) }
     ensures asked { request_of result ≡ spec.asked_by verb (rows_of (found_of matches.now)) }
@@ -276,7 +276,7 @@ fn status_at(matches: &ArgMatches<'_>) -> Option<u32>
     }
 }
 
-/// What is logged.
+/// The lines of a server's log that are wanted.
 fn severity_at(matches: &ArgMatches<'_>) -> Severity
     ensures { result ≡ spec.severity_in (text_at (rows_of (found_of matches.now)) named.Log) }
 {
@@ -286,7 +286,7 @@ fn severity_at(matches: &ArgMatches<'_>) -> Severity
     }
 }
 
-/// Which tenants a server renews by itself.
+/// The tenants that a server renews by itself.
 fn renew_of(matches: &ArgMatches<'_>) -> RenewPolicy
     ensures { result ≡ spec.renew_in (rows_of (found_of matches.now)) }
 {
@@ -300,7 +300,7 @@ fn renew_of(matches: &ArgMatches<'_>) -> RenewPolicy
     }
 }
 
-/// When a journal's records are brought to the disk.
+/// The time at which a journal's records are brought to the disk.
 fn syncs_in(word: Option<&str>) -> Syncs
     ensures { result ≡ spec.syncs_in (text_of word.entry) }
 {

@@ -1,8 +1,8 @@
-//! What is done with a journal, without a server.
+//! The words of `journal` ask for one of these actions, without a server.
 
-/// What is done with a journal, without a server.
+/// An action on a journal, without a server.
 #[derive(Clone, Copy, Debug)]
 pub enum JournalAction {
-    /// It is read from end to end, and what is there is told.
+    /// The journal is read from end to end, and its contents are told in a line.
     Check,
 }

@@ -1,5 +1,5 @@
-//! What a run is told: the words of its command line, and what they ask for or why they are refused; and who is told how
-//! it goes, by how severe that is.
+//! A run is told by the words of its command line: they ask for something, or are refused with a reason. It tells by a log
+//! how it goes, and how severe that is.
 #![tactic(auto)]
 
 mod argument;

@@ -20,14 +20,14 @@ pub(crate) const VERBS: [(&str, Verb); 8] = [
     ("key", Verb::Key),
 ];
 
-/// How severe it is what the log tells.
+/// The words for a line's severity.
 pub(crate) const SEVERITIES: [(&str, Severity); 3] = [
     ("error", Severity::Error),
     ("warning", Severity::Warning),
     ("info", Severity::Info),
 ];
 
-/// When a record of a journal is brought to the disk.
+/// The words for the time at which a record is brought to the disk.
 pub(crate) const SYNCS: [(&str, Syncs); 3] = [
     ("always", Syncs::Always),
     ("second", Syncs::Second),
@@ -40,10 +40,10 @@ pub(crate) const RENEW_POLICIES: [(&str, RenewPolicy); 2] = [
     ("never", RenewPolicy::Never),
 ];
 
-/// What is done with a journal.
+/// The words for an action on a journal.
 pub(crate) const JOURNAL_ACTIONS: [(&str, JournalAction); 1] = [("check", JournalAction::Check)];
 
-/// What a word stands for, if it is one of the table.
+/// The meaning of a word, if it is one of the table.
 pub(crate) fn meaning_of<T: Copy>(word: &str, table: &[(&str, T)]) -> Option<T>
     ensures { result ≡ spec.meaning_of word.now (spec.entries_of table.now) }
 {

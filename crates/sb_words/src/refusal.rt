@@ -33,7 +33,7 @@ pub fn misplaced_line(alloc: Global, unfit: Unfit<'_>) -> Result<Vec<u8>, AllocE
     Ok(line)
 }
 
-/// What is allowed in a part's place.
+/// The values that are allowed in a part's place.
 fn allowed<'a>(part: Argument) -> &'a str
     ensures { result.now ≡ allowed_for part }
 {

@@ -1,8 +1,8 @@
-//! How severe it is what the log tells.
+//! Each line of the log has a severity.
 ghost use Rattle.std.specs.Prelude.{◌≡◌, ◌≤◌, ◌↔◌, IsTrue};
 ghost use Rattle.sb_words.specs.Severities.{rank};
 
-/// How severe it is what a line of the log tells.
+/// The severity of a line of the log.
 #[derive(Clone, Copy, Debug)]
 pub enum Severity {
     Error,

@@ -1,12 +1,12 @@
-//! When what a journal has is brought to the disk.
+//! A journal's records are brought to the disk at one of these times.
 
-/// When a record of a journal is brought to the disk.
+/// The time at which a record of a journal is brought to the disk.
 #[derive(Clone, Copy, Debug)]
 pub enum Syncs {
     /// Before its line is answered.
     Always,
     /// A second behind that, at most.
     Second,
-    /// When the system does so.
+    /// As the system does so by itself.
     Never,
 }

@@ -18,7 +18,7 @@ use clap::{Arg, ArgAction, ArgMatches, Command, Error};
 use std::alloc::{AllocError, Global};
 use std::convert::AsStr;
 
-/// What a command line asks for.
+/// The meaning of a command line, or the reason of its refusal.
 #[derive(Drop)]
 pub enum Asked<'a> {
     For(Invocation<'a>),
@@ -49,7 +49,7 @@ pub fn read_words<'a, S: AsStr>(alloc: Global, words: &'a [S]) -> Result<Asked<'
     }
 }
 
-/// What clap finds in the words.
+/// The matches that clap finds in the words.
 fn matches_in<'a, S: AsStr>(alloc: Global, words: &'a [S]) -> Result<ArgMatches<'a>, Error>
     ensures kinds { FailsBy (fault_of starhost (map S.text words.now)) result }
     ensures found { IfOk result (λ m. rows_of (found_of m) ≡ matches_of starhost (map S.text words.now)) }
@@ -59,7 +59,7 @@ fn matches_in<'a, S: AsStr>(alloc: Global, words: &'a [S]) -> Result<ArgMatches<
     program(alloc)?.try_get_matches_from(words)
 }
 
-/// What is asked for by what clap finds.
+/// The meaning of the matches that clap finds.
 fn asked_in<'a>(matches: &ArgMatches<'a>) -> Asked<'a>
     requires { IfSome (subcommand_rows_of matches.now) (λ c. IsSome (verb_of c.0)) }
     ensures asked { IsAskedBy (rows_of (found_of matches.now), subcommand_rows_of matches.now) result }
@@ -77,7 +77,7 @@ fn asked_in<'a>(matches: &ArgMatches<'a>) -> Asked<'a>
     }
 }
 
-/// What is asked of a command.
+/// The meaning of a command's matches.
 fn asked_by<'a>(verb: Verb, matches: &ArgMatches<'a>) -> Asked<'a>
     ensures asked { IsAskedOf verb (rows_of (found_of matches.now)) result }
     ensures within { AreWithin result }

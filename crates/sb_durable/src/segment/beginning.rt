@@ -1,4 +1,4 @@
-//! What a segment begins with.
+//! A segment begins with a head.
 ghost use Rattle.std.specs.Prelude.{◌≡◌, ◌≢◌, ◌+◌, ◌<◌, ◌≤◌, ◌^◌, ◌↔◌, ◌++◌, ◌∷◌, List, ℕ, length, drop, IfOk, IfErr, OnOk, IsTrue, vec_len};
 ghost use Rattle.std.specs.Int.{w32, w64, to_be_bytes};
 ghost use Rattle.sb_durable.specs.Head.{Head, IsHead, IsCutHead, IsForeign, IsUnbegun, IsOpened, mark, head_bytes, head_digest};
@@ -14,7 +14,7 @@ use std::io;
 /// Settings have no more bytes than this.
 pub(crate) const MAX_SETTINGS: usize = 4096;
 
-/// How many bytes of a head stand before its settings.
+/// The number of bytes of a head before its settings.
 const FIELDS: usize = 28;
 
 #[derive(Drop, Debug)]

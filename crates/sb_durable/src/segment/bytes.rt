@@ -6,7 +6,7 @@ ghost use Rattle.sb_durable.specs.Head.{head_text};
 
 use std::alloc::{AllocError, Global};
 
-/// What stands before the content of a block.
+/// The bytes before the content of a block.
 #[derive(Clone, Copy)]
 pub(crate) struct Opening {
     /// 0 if it is shut.
@@ -16,7 +16,7 @@ pub(crate) struct Opening {
     pub chain: u64,
 }
 
-/// What a head says, without its gate and its digest.
+/// The bytes of a head without its gate and its digest.
 pub(crate) fn text_of_head(
     alloc: Global,
     number: u64,

@@ -2,7 +2,7 @@
 ghost use Rattle.std.specs.Prelude.{IfErr, OnOk};
 ghost use Rattle.sb_durable.specs.Folders.{FollowOn, IsGap};
 
-/// What the name of a segment's file begins with.
+/// The name of a segment's file begins with this.
 pub(crate) const PREFIX: &str = "journal.";
 
 /// The number has six digits at least.

@@ -9,7 +9,7 @@ use crate::segment::{Place, Segment, SegmentError};
 use sqlite_disk::Disk;
 use std::alloc::Global;
 
-/// How many bytes of a head aren't settings.
+/// The number of bytes of a head that aren't settings.
 pub(crate) const HEAD: usize = 36;
 
 impl<D: Disk> Segment<D> {

@@ -24,7 +24,7 @@ const MAX_LEN: usize = 1 << 62;
 pub struct Segment<D: Disk> {
     pub(crate) device: D,
     pub(crate) beginning: Beginning,
-    /// Where the gate behind the last block is.
+    /// The place of the gate behind the last block.
     pub(crate) end: Place,
     /// Nothing is behind that gate, and it is shut.
     pub(crate) is_settled: bool,

@@ -13,10 +13,10 @@ use std::alloc::Global;
 /// A content has no more bytes than this.
 const MAX_CONTENT: usize = 1 << 20;
 
-/// How many bytes of a block stand before its content.
+/// The number of bytes of a block before its content.
 const OPENING: usize = 13;
 
-/// Where the blocks of a file end that begin at `first`.
+/// The end of the blocks of a file that begin at `first`.
 pub(crate) fn find_end<D: Disk>(
     alloc: Global,
     disk: &mut D,
