@@ -12,9 +12,10 @@ two commit again, and the third deletes its rows. The first thing that isn't as 
 import sys
 import threading
 
-from bench.harness import Closed, Server, expect, need, program_of
+from bench.harness import Closed, Server, expect, is_unproved, need, program_of
 
-SHARE = 16  # MB
+# MB; a program with checks takes other memory and much longer, so its shares are small and its memory isn't compared
+SHARE = 2 if is_unproved() else 16
 GREEDY = 8
 LIMITS = ("no 91 NoMemory", "no 92 NotBegun")
 ROWS = ", ".join(f"({number})" for number in range(500))
@@ -87,7 +88,7 @@ def main():
             taker.join()
         need(not failed, "; ".join(failed))
         most = server.peak_memory() - before
-        need(most <= 1.2 * GREEDY * SHARE * 1024, f"{most:,} KB more than before, where all shares are {GREEDY * SHARE * 1024:,}")
+        need(is_unproved() or most <= 1.2 * GREEDY * SHARE * 1024, f"{most:,} KB more than before, where all shares are {GREEDY * SHARE * 1024:,}")
         server.end_well()
         print(f"{GREEDY} tenants with a share of {SHARE} MB that take what they can: {most:,} KB at most")
     finally:
