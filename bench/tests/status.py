@@ -277,15 +277,25 @@ def counts(program):
     print(f"counts: {len(wanted)} samples are what was done")
 
 
+def many_rows(file):
+    """The reply to a commit behind a select of many rows, or to a select that isn't answered."""
+    expect("a transaction", say(file, "begin"), "ok\n")
+    told = say(file, "select * from w x, w y")
+    return say(file, "commit") if told.startswith("rows") else told
+
+
 def unbegun(program):
     """A line that isn't begun for want of a share is among the slowest with its text, too."""
     server = Server(program, "--tenant-memory", "1")
     stream, file, reply = server.client("2 0")
     wide = ", ".join(f"({row}, '{'x' * 100}')" for row in range(32))
-    run(file, "create table w (a int, b text)\nbegin" + f"\ninsert into w values {wide}" * 2)
-    for _ in range(2):
-        expect("a reply that takes most of a share", say(file, "select * from w x, w y"), "rows 4096\n")
-    expect("a line that isn't begun", say(file, "select * from w where a = 92"), "no 92 NotBegun\n")
+    run(file, f"create table w (a int, b text)\nbegin\ninsert into w values {wide}\ncommit")
+    while (told := many_rows(file)) == "done 0\n":
+        pass
+    expect("a reply that takes more than is left", told, "no 91 NoMemory\n")
+    while (told := say(file, "select * from w where a = 92")) == "no 42 NoTransaction\n":
+        pass
+    expect("a line that isn't begun", told, "no 92 NotBegun\n")
     need(b"<pre>select * from w where a = 92</pre>" in server.get("/")[1], "its text")
     until("it is counted", lambda: server.sample('filgwesha_refusals_total{number="92",name="NotBegun"}') == 1)
     stream.close()
