@@ -8,6 +8,7 @@ import subprocess
 import sys
 import tempfile
 import time
+import urllib.request
 from typing import NamedTuple
 
 from bench.harness.client import Client, connect, read_all
@@ -91,6 +92,12 @@ class Server:
     def told(self):
         """Its log so far."""
         return os.pread(self.log.fileno(), 1 << 20, 0).decode()
+
+    def sample(self, name):
+        """The value of a sample at its status port."""
+        with urllib.request.urlopen(f"http://127.0.0.1:{self.status_port}/metrics", timeout=PATIENCE) as answer:
+            lines = answer.read().decode().splitlines()
+        return next(float(line.split()[-1]) for line in lines if line.startswith(f"{name} "))
 
     def wait_for(self, text):
         """Waits until its log has this."""

@@ -640,16 +640,21 @@ def full_disk(program, room):
     """Where a disk is full, replies that have to wait do, and the server goes on when there is room again. Returns how many lines
     were answered before."""
     file = os.path.join(room, "full")
-    server = journaled(program, file, limit=4000)
+    server = journaled(program, file, "--status", "0", limit=4000)
     made = ["create table t (a int, b text)"] + ["begin", f"insert into t values (1, '{'x' * 200}')", "commit"] * 30
     client = Client(server, 0, 0, made)
     client.start()
     server.wait_for("journal: no room: ")
     time.sleep(0.5)
     answered = client.answers
+    commits = server.sample("filgwesha_journal_commits_total")
+    need(commits > 0 and server.sample("filgwesha_journal_commit_seconds_total") > 0, f"{commits} commits")
+    need(server.sample("filgwesha_journal_lacks_room") == 1, "a full disk is a sample")
     need(client.is_alive() and os.path.getsize(newest(file)) <= 4000, f"a full disk: {answered} answers, {server.told()}")
     resource.prlimit(server.process.pid, resource.RLIMIT_FSIZE, (resource.RLIM_INFINITY, resource.RLIM_INFINITY))
     client.join()
+    need(server.sample("filgwesha_journal_lacks_room") == 0, "room again is a sample")
+    need(server.sample("filgwesha_journal_commits_total") > commits and server.sample("filgwesha_journal_age_seconds") < 60, "commits behind it")
     status, _, log = server.end()
     need(status == 0 and len(client.answered) == len(made) + 1, f"room again: {status}, {len(client.answered)} answers, {log}")
     need([log.count(f"journal: {told}") for told in ("no room: ", "there is room again")] == [1, 1], f"a full disk is told once: {log}")

@@ -287,6 +287,7 @@ def many_rows(file):
 def unbegun(program):
     """A line that isn't begun for want of a share is among the slowest with its text, too."""
     server = Server(program, "--tenant-memory", "1")
+    expect("the limit of a tenant", server.sample("filgwesha_tenant_memory_limit_bytes"), 1 << 20)
     stream, file, reply = server.client("2 0")
     wide = ", ".join(f"({row}, '{'x' * 100}')" for row in range(32))
     run(file, f"create table w (a int, b text)\nbegin\ninsert into w values {wide}\ncommit")

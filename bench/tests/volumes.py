@@ -54,13 +54,6 @@ def post(server, path):
         return answer.status
 
 
-def sample(server, name):
-    """The value of a sample of /metrics."""
-    with urllib.request.urlopen(f"http://127.0.0.1:{server.status_port}/metrics", timeout=60) as answer:
-        lines = answer.read().decode().splitlines()
-    return next(float(line.split()[-1]) for line in lines if line.startswith(f"{name} "))
-
-
 def prepare(server, first):
     """A client of this session that has made the tables."""
     client = server.client(first)
@@ -129,7 +122,7 @@ def life(program, lines):
     for neighbour in neighbours:
         neighbour.join()
         need(neighbour.wrong is None, f"a neighbour: {neighbour.wrong}")
-    renewals = int(sample(server, "filgwesha_renewals_total"))
+    renewals = int(server.sample("filgwesha_renewals_total"))
     need(renewals >= count // 1_048_576, f"{renewals} renewals")
     memory = server.memory()
     need(memory < 600_000, f"{memory} KB")
@@ -155,7 +148,7 @@ def share(program, selects):
         read_exactly(client.stream, wanted)
         most = max(most, server.memory())
     after = server.memory() - before
-    renewals = int(sample(server, "filgwesha_renewals_total"))
+    renewals = int(server.sample("filgwesha_renewals_total"))
     need(selects < 1000 or renewals > 0, "it was never renewed")
     need(after <= 1.2 * 64 * 1024, f"{after} KB more than before")
     end_counted(server, 1, 1, 1, 11 + 3 * selects)
@@ -217,7 +210,7 @@ def beside(program):
     for writer in writers:
         writer.join()
         need(writer.wrong is None, f"a client: {writer.wrong}")
-    renewals = int(sample(server, "filgwesha_renewals_total"))
+    renewals = int(server.sample("filgwesha_renewals_total"))
     need(renewals >= 10, f"{renewals} renewals")
     longest = [max(writer.longest for writer in writers if writer.tenant == tenant) for tenant in range(2)]
     end_counted(server, 2, 18, 8, 16 + sum(writer.lines for writer in writers))
@@ -254,7 +247,7 @@ def killed(program, times):
             while time.monotonic() < end:
                 post(server, f"/tenants/{random.randrange(2)}/renew")
                 time.sleep(0.02)
-            renewals += int(sample(server, "filgwesha_renewals_total"))
+            renewals += int(server.sample("filgwesha_renewals_total"))
             server.kill()
             over.set()
             for writer in writers:

@@ -8,8 +8,8 @@ use crate::renewal_board::RenewalBoard;
 use crate::running_steps::LongStep;
 use sb_server::{Cause, Count, LIMITS, ServerMetrics, SlowLine};
 use sb_status::{
-    Activity, Bucket, Histogram, HostNumbers, HostView, Refused, RenewalNumbers, Rollbacks,
-    RunningStepView, SlowView, TenantNumbers, WorkerNumbers, host_page, metrics,
+    Activity, Bucket, Histogram, HostNumbers, HostView, JournalNumbers, Refused, RenewalNumbers,
+    Rollbacks, RunningStepView, SlowView, TenantNumbers, WorkerNumbers, host_page, metrics,
 };
 use std::alloc::{AllocError, Global};
 use std::sync::Wait;
@@ -39,6 +39,7 @@ pub(crate) struct Overview {
     pub(crate) counted: Counted,
     pub(crate) first_tenant: u32,
     pub(crate) running: Vec<LongStep>,
+    pub(crate) journal: Option<JournalNumbers>,
 }
 
 impl Overview {
@@ -73,9 +74,12 @@ impl Overview {
         slowest: &'v [SlowView<'v>],
         running: &'v [RunningStepView<'v>],
     ) -> HostView<'v> {
+        let mut activity = self.counted.activity(slowest);
+        activity.running = running;
+        activity.journal = self.journal;
         HostView {
             host: self.host,
-            activity: self.counted.activity(slowest, running),
+            activity,
             tenants: self.tenants.as_slice(),
         }
     }
@@ -129,12 +133,8 @@ impl Counted {
         Ok(views)
     }
 
-    /// All of it, with these lines and steps.
-    fn activity<'v>(
-        &'v self,
-        slowest: &'v [SlowView<'v>],
-        running: &'v [RunningStepView<'v>],
-    ) -> Activity<'v> {
+    /// All of it, with these lines.
+    fn activity<'v>(&'v self, slowest: &'v [SlowView<'v>]) -> Activity<'v> {
         Activity {
             workers: self.workers.as_slice(),
             considerations: self.considerations,
@@ -147,7 +147,8 @@ impl Counted {
                 micros: self.micros,
             },
             slowest,
-            running,
+            running: &[],
+            journal: None,
         }
     }
 }

@@ -4,6 +4,7 @@ ghost use Rattle.sb_durable.specs.RecordedTrails.{AreKept};
 
 use crate::event_log::EventLog;
 use crate::housekeeping::Chore;
+use crate::journal_board::{CommitStart, JournalBoard};
 use sb_durable::{
     BatchJournal, Flusher, JournalError, Recorder, tell_no_room, tell_not_recorded, tell_room,
 };
@@ -21,26 +22,29 @@ pub struct JournalHook<'k, R, T> {
     log: &'k EventLog<'k, T>,
     /// The last commit lacked memory.
     lacks_memory: AtomicBool,
-    /// The last commit lacked room on the disk.
-    lacks_room: AtomicBool,
     has_failed: AtomicBool,
+    /// Where commits are counted.
+    board: &'k JournalBoard,
     /// Syncs what is written, if commits don't.
     flusher: Option<&'k Flusher<'k, EventLog<'k, T>>>,
 }
 
 impl<'k, R, T: Eprint + Clock> JournalHook<'k, R, T> {
-    /// A hook of this recorder. Without a flusher each commit has synced what it wrote.
+    /// A hook of this recorder, whose commits are counted on this board. Without a flusher each commit has synced what it
+    /// wrote.
     pub fn new(
         recorder: R,
         log: &'k EventLog<'k, T>,
+        board: &'k JournalBoard,
         flusher: Option<&'k Flusher<'k, EventLog<'k, T>>>,
     ) -> JournalHook<'k, R, T> {
+        board.note_used();
         JournalHook {
             recorder,
             log,
             lacks_memory: AtomicBool::new(false),
-            lacks_room: AtomicBool::new(false),
             has_failed: AtomicBool::new(false),
+            board,
             flusher,
         }
     }
@@ -61,7 +65,7 @@ impl<'k, R, T: Eprint + Clock> JournalHook<'k, R, T> {
     fn tell(&self, error: &JournalError) {
         match error {
             JournalError::NoRoom(why) => {
-                if !self.lacks_room.swap(true, Ordering::SeqCst) {
+                if !self.board.note_room(true) {
                     tell_no_room(self.log, why);
                 }
             }
@@ -78,9 +82,10 @@ impl<'k, R, T: Eprint + Clock> JournalHook<'k, R, T> {
     }
 
     /// Notes that a commit lacked neither memory nor room.
-    fn note_kept(&self) {
+    fn note_kept(&self, start: CommitStart) {
+        self.board.note_kept(self.log.rt(), start);
         self.lacks_memory.store(false, Ordering::SeqCst);
-        if self.lacks_room.swap(false, Ordering::SeqCst) {
+        if self.board.note_room(false) {
             tell_room(self.log);
         }
     }
@@ -97,9 +102,10 @@ impl<'k, H: Lending, B: BatchJournal, T: Eprint + Clock> CommitHook
     }
 
     fn keep<W: Wait>(&self, rt: &W, tenants: &[u32]) -> CommitStatus {
+        let start = self.board.begin(self.log.rt());
         match self.recorder.keep(rt, tenants) {
             Ok(()) => {
-                self.note_kept();
+                self.note_kept(start);
                 self.written()
             }
             Err(error) => {

@@ -9,6 +9,7 @@ mod event_log;
 mod housekeeping;
 mod http_connection;
 mod http_outcome;
+mod journal_board;
 mod journal_hook;
 mod listener;
 mod memory;
@@ -31,6 +32,7 @@ mod tenant_script;
 
 pub use event_log::EventLog;
 pub use housekeeping::{Chore, Housekeeping, IdleRenewals, LongStop, NoChore};
+pub use journal_board::JournalBoard;
 pub use journal_hook::{JournalHook, SyncedChore};
 pub use listener::{ListenError, is_closed, listen};
 pub use memory::memory_file;

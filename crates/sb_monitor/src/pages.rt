@@ -11,6 +11,7 @@ ghost use Rattle.sb_monitor.specs.Pages.{AreSamples, IsEndOutcome, IsHostOutcome
 
 use crate::activity::{Counted, Overview};
 use crate::http_outcome::{HttpRefusal, Outcome, Shown, has_body};
+use crate::journal_board::JournalBoard;
 use crate::memory::resident;
 use crate::page_access::is_let_in;
 use crate::renewal_board::RenewalBoard;
@@ -61,6 +62,10 @@ pub struct Pages<'k, H, A, T, E = ServerControls> {
     pub renewal_board: &'k RenewalBoard,
     /// How many connections got no session of them.
     pub session_board: &'k SessionBoard,
+    /// The commits of its journal.
+    pub journal_board: &'k JournalBoard,
+    /// The most bytes that a tenant may take, if there is a limit.
+    pub tenant_memory: Option<u64>,
     /// What tells them that sessions are to end, and the server that it is to stop.
     pub control: &'k E,
     ghost few: { bound.considerations ≤ 1000 },
@@ -232,6 +237,7 @@ impl<'k, H: Lending, A: Admission, T: Wait + Clock, E: ServerControl> Pages<'k, 
             counted: Counted::read(self.rt, self.alloc, self.server_metrics, self.renewal_board)?,
             first_tenant: self.first_tenant,
             running: long_steps(self.alloc, self.host)?,
+            journal: self.journal_board.numbers(self.rt),
         })
     }
 
@@ -279,6 +285,7 @@ impl<'k, H: Lending, A: Admission, T: Wait + Clock, E: ServerControl> Pages<'k, 
             bound: u64::from(self.bound.considerations),
             uptime: self.uptime(),
             memory: resident_of(&self.memory),
+            tenant_memory: self.tenant_memory,
         }
     }
 

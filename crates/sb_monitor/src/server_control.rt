@@ -2,6 +2,7 @@
 ghost use Rattle.std.specs.Prelude.{Bool, IsTrue, ℕ};
 ghost use Rattle.sb_connection.specs.declared.first_line.SessionName.{SessionName as ItsSessionName};
 
+use crate::journal_board::JournalBoard;
 use crate::renewal_board::RenewalBoard;
 use crate::session_board::SessionBoard;
 use crate::stop_switch::StopSwitch;
@@ -57,6 +58,8 @@ pub struct ServerControls {
     pub renewal_board: RenewalBoard,
     /// How many of their sessions have a connection.
     pub session_board: SessionBoard,
+    /// The commits of its journal.
+    pub journal_board: JournalBoard,
     /// None: it can't be told to stop.
     stop_switch: Option<StopSwitch>,
     is_ready: AtomicBool,
@@ -88,6 +91,7 @@ impl ServerControls {
             server_metrics,
             renewal_board,
             session_board,
+            journal_board: JournalBoard::new(rt),
             stop_switch,
             is_ready: AtomicBool::new(false),
         })

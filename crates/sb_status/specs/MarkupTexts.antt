@@ -1,8 +1,8 @@
 -- Promise: the marks of pages, each with its bytes.
 use Rattle.std.specs.Prelude.{ℕ, List}
 use Rattle.sb_status.specs.declared.markup.Markup.{Markup}
-use Rattle.sb_status.specs.declared.markup.Markup.TheVariants.{Head, Foot, Blank, Comma, NewLine, Row, Cell, NumberCell, RowEnd, TableEnd, HostTitle, FactUptime, Days, Hours, Minutes, Seconds, FactMemory, Bytes, Kilobytes, Megabytes, Gigabytes, FactTenants, FactCells, FactBound, FactsEnd, TenantsHead, TenantLink, LinkText, LinkEnd, TenantTitle, FactSteps, FactRoom, FactBytes, FactRows, FactOpen, FactActive, FactChanges, FactVolume, FactRenewed, TablesHead, IntType, TextType, RulesetsHead, SessionsHead, ClosedCell, OpenCell, TransactionCell, Ago, RulesHead, Inserted, Deleted, Updated, UpdatedOf, UpdatedEnd, ActiveCell, InactiveCell, LinesBegin, LinesEnd, PictureHead, SvgWidth, SvgHeight, SvgBox, SvgHead, Arrow, CycleArrow, OrderArrow, CurveBy, ArrowEnd, RuleBox, CycleBox, InactiveBox, InactiveCycleBox, BoxTop, BoxWidth, BoxHeight, NameAt, TextTop, TextBegin, TextEnd, WordAt, CycleWord, SvgEnd, LeftOut, LeftOutEnd, VersionSample, VersionEnd, UptimeSample, MemorySample, TenantsSample, CellsSample, BoundSample, SampleEnd, StepsFamily, StepsSample, RoomFamily, RoomSample, BytesFamily, BytesSample, TablesFamily, TablesSample, RowsFamily, RowsSample, RulesFamily, RulesSample, OpenFamily, OpenSample, ActiveFamily, ActiveSample, ChangesFamily, ChangesSample, VolumeFamily, VolumeSample, VolumeAgeFamily, VolumeAgeSample, TurnedAwayFamily, TurnedAwaySample, FactLines, FactConsiderations, FactRollbacks, FactRefusals, FactRenewals, OldAge, OldAgeEnd, WorkersHead, DoorCell, CausesHead, RefusalsHead, SlowestHead, RunningHead, PreCell, PreRowEnd, Point, OldPage, OldPageEnd, ConsiderationsSample, RenewalsSample, RenewalsFailedSample, RollbacksFamily, RollbacksSample, RefusalsFamily, RefusalsSample, NameLabel, WorkerTakenFamily, WorkerTakenSample, WorkerOpenFamily, WorkerOpenSample, WorkerLinesFamily, WorkerLinesSample, WorkerBusyFamily, WorkerBusySample, Door, TimesFamily, TimesBucket, TimesSum, TimesCount, OldFamily, OldSample}
-use Rattle.sb_status.specs.declared.markup_texts.TheConstants.{HEAD, FOOT, BLANK, COMMA, NEW_LINE, ROW, CELL, NUMBER_CELL, ROW_END, TABLE_END, HOST_TITLE, FACT_UPTIME, DAYS, HOURS, MINUTES, SECONDS, FACT_MEMORY, BYTES, KILOBYTES, MEGABYTES, GIGABYTES, FACT_TENANTS, FACT_CELLS, FACT_BOUND, FACTS_END, TENANTS_HEAD, TENANT_LINK, LINK_TEXT, LINK_END, TENANT_TITLE, FACT_STEPS, FACT_ROOM, FACT_BYTES, FACT_ROWS, FACT_OPEN, FACT_ACTIVE, FACT_CHANGES, FACT_VOLUME, FACT_RENEWED, TABLES_HEAD, INT_TYPE, TEXT_TYPE, RULESETS_HEAD, SESSIONS_HEAD, CLOSED_CELL, OPEN_CELL, TRANSACTION_CELL, AGO, RULES_HEAD, INSERTED, DELETED, UPDATED, UPDATED_OF, UPDATED_END, ACTIVE_CELL, INACTIVE_CELL, LINES_BEGIN, LINES_END, PICTURE_HEAD, SVG_WIDTH, SVG_HEIGHT, SVG_BOX, SVG_HEAD, ARROW, CYCLE_ARROW, ORDER_ARROW, CURVE_BY, ARROW_END, RULE_BOX, CYCLE_BOX, INACTIVE_BOX, INACTIVE_CYCLE_BOX, BOX_TOP, BOX_WIDTH, BOX_HEIGHT, NAME_AT, TEXT_TOP, TEXT_BEGIN, TEXT_END, WORD_AT, CYCLE_WORD, SVG_END, LEFT_OUT, LEFT_OUT_END, VERSION_SAMPLE, VERSION_END, UPTIME_SAMPLE, MEMORY_SAMPLE, TENANTS_SAMPLE, CELLS_SAMPLE, BOUND_SAMPLE, SAMPLE_END, STEPS_FAMILY, STEPS_SAMPLE, ROOM_FAMILY, ROOM_SAMPLE, BYTES_FAMILY, BYTES_SAMPLE, TABLES_FAMILY, TABLES_SAMPLE, ROWS_FAMILY, ROWS_SAMPLE, RULES_FAMILY, RULES_SAMPLE, OPEN_FAMILY, OPEN_SAMPLE, ACTIVE_FAMILY, ACTIVE_SAMPLE, CHANGES_FAMILY, CHANGES_SAMPLE, VOLUME_FAMILY, VOLUME_SAMPLE, VOLUME_AGE_FAMILY, VOLUME_AGE_SAMPLE, TURNED_AWAY_FAMILY, TURNED_AWAY_SAMPLE, FACT_LINES, FACT_CONSIDERATIONS, FACT_ROLLBACKS, FACT_REFUSALS, FACT_RENEWALS, OLD_AGE, OLD_AGE_END, WORKERS_HEAD, DOOR_CELL, CAUSES_HEAD, REFUSALS_HEAD, SLOWEST_HEAD, RUNNING_HEAD, PRE_CELL, PRE_ROW_END, POINT, OLD_PAGE, OLD_PAGE_END, CONSIDERATIONS_SAMPLE, RENEWALS_SAMPLE, RENEWALS_FAILED_SAMPLE, ROLLBACKS_FAMILY, ROLLBACKS_SAMPLE, REFUSALS_FAMILY, REFUSALS_SAMPLE, NAME_LABEL, WORKER_TAKEN_FAMILY, WORKER_TAKEN_SAMPLE, WORKER_OPEN_FAMILY, WORKER_OPEN_SAMPLE, WORKER_LINES_FAMILY, WORKER_LINES_SAMPLE, WORKER_BUSY_FAMILY, WORKER_BUSY_SAMPLE, DOOR, TIMES_FAMILY, TIMES_BUCKET, TIMES_SUM, TIMES_COUNT, OLD_FAMILY, OLD_SAMPLE}
+use Rattle.sb_status.specs.declared.markup.Markup.TheVariants.{Head, Foot, Blank, Comma, NewLine, Row, Cell, NumberCell, RowEnd, TableEnd, HostTitle, FactUptime, Days, Hours, Minutes, Seconds, FactMemory, Bytes, Kilobytes, Megabytes, Gigabytes, FactTenants, FactCells, FactBound, FactsEnd, TenantsHead, TenantLink, LinkText, LinkEnd, TenantTitle, FactSteps, FactRoom, FactBytes, FactRows, FactOpen, FactActive, FactChanges, FactVolume, FactRenewed, TablesHead, IntType, TextType, RulesetsHead, SessionsHead, ClosedCell, OpenCell, TransactionCell, Ago, RulesHead, Inserted, Deleted, Updated, UpdatedOf, UpdatedEnd, ActiveCell, InactiveCell, LinesBegin, LinesEnd, PictureHead, SvgWidth, SvgHeight, SvgBox, SvgHead, Arrow, CycleArrow, OrderArrow, CurveBy, ArrowEnd, RuleBox, CycleBox, InactiveBox, InactiveCycleBox, BoxTop, BoxWidth, BoxHeight, NameAt, TextTop, TextBegin, TextEnd, WordAt, CycleWord, SvgEnd, LeftOut, LeftOutEnd, VersionSample, VersionEnd, UptimeSample, MemorySample, TenantsSample, CellsSample, BoundSample, SampleEnd, StepsFamily, StepsSample, RoomFamily, RoomSample, BytesFamily, BytesSample, TablesFamily, TablesSample, RowsFamily, RowsSample, RulesFamily, RulesSample, OpenFamily, OpenSample, ActiveFamily, ActiveSample, ChangesFamily, ChangesSample, VolumeFamily, VolumeSample, VolumeAgeFamily, VolumeAgeSample, TurnedAwayFamily, TurnedAwaySample, FactLines, FactConsiderations, FactRollbacks, FactRefusals, FactRenewals, OldAge, OldAgeEnd, WorkersHead, DoorCell, CausesHead, RefusalsHead, SlowestHead, RunningHead, JournalRoomSample, JournalAgeSample, JournalSecondsSample, JournalCommitsSample, MemoryLimitSample, PreCell, PreRowEnd, Point, OldPage, OldPageEnd, ConsiderationsSample, RenewalsSample, RenewalsFailedSample, RollbacksFamily, RollbacksSample, RefusalsFamily, RefusalsSample, NameLabel, WorkerTakenFamily, WorkerTakenSample, WorkerOpenFamily, WorkerOpenSample, WorkerLinesFamily, WorkerLinesSample, WorkerBusyFamily, WorkerBusySample, Door, TimesFamily, TimesBucket, TimesSum, TimesCount, OldFamily, OldSample}
+use Rattle.sb_status.specs.declared.markup_texts.TheConstants.{HEAD, FOOT, BLANK, COMMA, NEW_LINE, ROW, CELL, NUMBER_CELL, ROW_END, TABLE_END, HOST_TITLE, FACT_UPTIME, DAYS, HOURS, MINUTES, SECONDS, FACT_MEMORY, BYTES, KILOBYTES, MEGABYTES, GIGABYTES, FACT_TENANTS, FACT_CELLS, FACT_BOUND, FACTS_END, TENANTS_HEAD, TENANT_LINK, LINK_TEXT, LINK_END, TENANT_TITLE, FACT_STEPS, FACT_ROOM, FACT_BYTES, FACT_ROWS, FACT_OPEN, FACT_ACTIVE, FACT_CHANGES, FACT_VOLUME, FACT_RENEWED, TABLES_HEAD, INT_TYPE, TEXT_TYPE, RULESETS_HEAD, SESSIONS_HEAD, CLOSED_CELL, OPEN_CELL, TRANSACTION_CELL, AGO, RULES_HEAD, INSERTED, DELETED, UPDATED, UPDATED_OF, UPDATED_END, ACTIVE_CELL, INACTIVE_CELL, LINES_BEGIN, LINES_END, PICTURE_HEAD, SVG_WIDTH, SVG_HEIGHT, SVG_BOX, SVG_HEAD, ARROW, CYCLE_ARROW, ORDER_ARROW, CURVE_BY, ARROW_END, RULE_BOX, CYCLE_BOX, INACTIVE_BOX, INACTIVE_CYCLE_BOX, BOX_TOP, BOX_WIDTH, BOX_HEIGHT, NAME_AT, TEXT_TOP, TEXT_BEGIN, TEXT_END, WORD_AT, CYCLE_WORD, SVG_END, LEFT_OUT, LEFT_OUT_END, VERSION_SAMPLE, VERSION_END, UPTIME_SAMPLE, MEMORY_SAMPLE, TENANTS_SAMPLE, CELLS_SAMPLE, BOUND_SAMPLE, SAMPLE_END, STEPS_FAMILY, STEPS_SAMPLE, ROOM_FAMILY, ROOM_SAMPLE, BYTES_FAMILY, BYTES_SAMPLE, TABLES_FAMILY, TABLES_SAMPLE, ROWS_FAMILY, ROWS_SAMPLE, RULES_FAMILY, RULES_SAMPLE, OPEN_FAMILY, OPEN_SAMPLE, ACTIVE_FAMILY, ACTIVE_SAMPLE, CHANGES_FAMILY, CHANGES_SAMPLE, VOLUME_FAMILY, VOLUME_SAMPLE, VOLUME_AGE_FAMILY, VOLUME_AGE_SAMPLE, TURNED_AWAY_FAMILY, TURNED_AWAY_SAMPLE, FACT_LINES, FACT_CONSIDERATIONS, FACT_ROLLBACKS, FACT_REFUSALS, FACT_RENEWALS, OLD_AGE, OLD_AGE_END, WORKERS_HEAD, DOOR_CELL, CAUSES_HEAD, REFUSALS_HEAD, SLOWEST_HEAD, RUNNING_HEAD, JOURNAL_ROOM_SAMPLE, JOURNAL_AGE_SAMPLE, JOURNAL_SECONDS_SAMPLE, JOURNAL_COMMITS_SAMPLE, MEMORY_LIMIT_SAMPLE, PRE_CELL, PRE_ROW_END, POINT, OLD_PAGE, OLD_PAGE_END, CONSIDERATIONS_SAMPLE, RENEWALS_SAMPLE, RENEWALS_FAILED_SAMPLE, ROLLBACKS_FAMILY, ROLLBACKS_SAMPLE, REFUSALS_FAMILY, REFUSALS_SAMPLE, NAME_LABEL, WORKER_TAKEN_FAMILY, WORKER_TAKEN_SAMPLE, WORKER_OPEN_FAMILY, WORKER_OPEN_SAMPLE, WORKER_LINES_FAMILY, WORKER_LINES_SAMPLE, WORKER_BUSY_FAMILY, WORKER_BUSY_SAMPLE, DOOR, TIMES_FAMILY, TIMES_BUCKET, TIMES_SUM, TIMES_COUNT, OLD_FAMILY, OLD_SAMPLE}
 
 abbrev pub markup_text : Markup → List ℕ
 markup_text Head = HEAD.now
@@ -134,6 +134,11 @@ markup_text CausesHead = CAUSES_HEAD.now
 markup_text RefusalsHead = REFUSALS_HEAD.now
 markup_text SlowestHead = SLOWEST_HEAD.now
 markup_text RunningHead = RUNNING_HEAD.now
+markup_text JournalRoomSample = JOURNAL_ROOM_SAMPLE.now
+markup_text JournalAgeSample = JOURNAL_AGE_SAMPLE.now
+markup_text JournalSecondsSample = JOURNAL_SECONDS_SAMPLE.now
+markup_text JournalCommitsSample = JOURNAL_COMMITS_SAMPLE.now
+markup_text MemoryLimitSample = MEMORY_LIMIT_SAMPLE.now
 markup_text PreCell = PRE_CELL.now
 markup_text PreRowEnd = PRE_ROW_END.now
 markup_text Point = POINT.now

@@ -4,7 +4,7 @@ use crate::activity::{causes, write_seconds};
 use crate::fragment::Fragment;
 use crate::markup::Markup;
 use crate::page::Page;
-use crate::view::{Activity, Histogram, Refused, Rollbacks, WorkerNumbers};
+use crate::view::{Activity, Histogram, JournalNumbers, Refused, Rollbacks, WorkerNumbers};
 use std::alloc::AllocError;
 
 /// The numbers that each worker has: the head of their family, and their samples.
@@ -28,6 +28,9 @@ pub(crate) fn write_activity(
         (Markup::RenewalsSample, activity.renewals.done),
         (Markup::RenewalsFailedSample, activity.renewals.failed),
     ])?;
+    if let Some(journal) = activity.journal {
+        write_journal(page, journal)?;
+    }
     page.mark(Markup::NewLine)?;
     write_rollbacks(page, activity.rollbacks)?;
     write_refusals(page, activity.refusals)?;
@@ -36,6 +39,16 @@ pub(crate) fn write_activity(
         write_family(page, *family, activity.workers)?;
     }
     Ok(())
+}
+
+fn write_journal(page: &mut Page<'_>, journal: JournalNumbers) -> Result<(), AllocError> {
+    page.count(Markup::JournalCommitsSample, journal.commits)?;
+    page.mark(Markup::JournalSecondsSample)?;
+    write_seconds(page, journal.micros)?;
+    page.counts(&[
+        (Markup::JournalAgeSample, journal.age),
+        (Markup::JournalRoomSample, u64::from(journal.lacks_room)),
+    ])
 }
 
 fn write_rollbacks(page: &mut Page<'_>, rollbacks: Rollbacks) -> Result<(), AllocError> {

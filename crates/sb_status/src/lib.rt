@@ -49,7 +49,7 @@ pub use tenant_copy::view_at;
 pub use tenant_counts::{Counting, SessionReading};
 pub use text::Escaping;
 pub use view::{
-    Activity, Bucket, ColumnView, Histogram, HostNumbers, HostView, Refused, RenewalNumbers,
-    Rollbacks, RuleView, RulesetView, RunningStepView, SessionState, SessionView, SlowView,
-    TableView, TenantNumbers, TenantView, TriggersView, WorkerNumbers,
+    Activity, Bucket, ColumnView, Histogram, HostNumbers, HostView, JournalNumbers, Refused,
+    RenewalNumbers, Rollbacks, RuleView, RulesetView, RunningStepView, SessionState, SessionView,
+    SlowView, TableView, TenantNumbers, TenantView, TriggersView, WorkerNumbers,
 };

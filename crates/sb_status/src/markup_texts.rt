@@ -473,6 +473,31 @@ pub(crate) const RENEWALS_FAILED_SAMPLE: &str = "\n\
 # TYPE filgwesha_renewals_failed_total counter
 filgwesha_renewals_failed_total ";
 
+pub(crate) const MEMORY_LIMIT_SAMPLE: &str = "\n\
+# HELP filgwesha_tenant_memory_limit_bytes The most bytes that a tenant may take, as its share of memory counts them.
+# TYPE filgwesha_tenant_memory_limit_bytes gauge
+filgwesha_tenant_memory_limit_bytes ";
+
+pub(crate) const JOURNAL_COMMITS_SAMPLE: &str = "\n\
+# HELP filgwesha_journal_commits_total Commits of the journal.
+# TYPE filgwesha_journal_commits_total counter
+filgwesha_journal_commits_total ";
+
+pub(crate) const JOURNAL_SECONDS_SAMPLE: &str = "\n\
+# HELP filgwesha_journal_commit_seconds_total Seconds that workers waited for commits of the journal, with their syncs.
+# TYPE filgwesha_journal_commit_seconds_total counter
+filgwesha_journal_commit_seconds_total ";
+
+pub(crate) const JOURNAL_AGE_SAMPLE: &str = "\n\
+# HELP filgwesha_journal_age_seconds Seconds since the last commit of the journal, or since the server began.
+# TYPE filgwesha_journal_age_seconds gauge
+filgwesha_journal_age_seconds ";
+
+pub(crate) const JOURNAL_ROOM_SAMPLE: &str = "\n\
+# HELP filgwesha_journal_lacks_room 1 where the newest commit of the journal found no room on the disk, else 0.
+# TYPE filgwesha_journal_lacks_room gauge
+filgwesha_journal_lacks_room ";
+
 pub(crate) const ROLLBACKS_FAMILY: &str = "\
 # HELP filgwesha_rollbacks_total Transactions that were rolled back, by what did it.
 # TYPE filgwesha_rollbacks_total counter

@@ -47,7 +47,11 @@ fn write_host<'v>(page: &mut Page<'v>, host: HostNumbers<'v>) -> Result<(), Allo
         (Markup::TenantsSample, host.tenants),
         (Markup::CellsSample, host.cells),
         (Markup::BoundSample, host.bound),
-    ])
+    ])?;
+    match host.tenant_memory {
+        Some(bytes) => page.count(Markup::MemoryLimitSample, bytes),
+        None => Ok(()),
+    }
 }
 
 /// Writes the samples of a family, one for each tenant.

@@ -14,6 +14,8 @@ pub struct HostNumbers<'a> {
     pub uptime: u64,
     /// The bytes of memory that the process has, if the system tells.
     pub memory: Option<u64>,
+    /// The most bytes that a tenant may take, if there is a limit.
+    pub tenant_memory: Option<u64>,
 }
 
 /// The numbers of a tenant.
@@ -122,6 +124,18 @@ pub struct RunningStepView<'a> {
     pub line: &'a [u8],
 }
 
+/// The commits of a server's journal.
+#[derive(Clone, Copy)]
+pub struct JournalNumbers {
+    pub commits: u64,
+    /// How long workers waited for them, all together.
+    pub micros: u64,
+    /// Seconds since one ended last, or since the server began.
+    pub age: u64,
+    /// The newest commit found no room on the disk, and is tried again.
+    pub lacks_room: bool,
+}
+
 /// How many tenants were renewed, and how often one couldn't be.
 #[derive(Clone, Copy)]
 pub struct RenewalNumbers {
@@ -143,6 +157,8 @@ pub struct Activity<'a> {
     pub slowest: &'a [SlowView<'a>],
     /// The steps that have run for more than a second, by their cells.
     pub running: &'a [RunningStepView<'a>],
+    /// None where the server has no journal.
+    pub journal: Option<JournalNumbers>,
 }
 
 /// What is shown of a server: its numbers, what it has counted, and a row for each of these tenants.

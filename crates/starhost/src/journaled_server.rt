@@ -109,7 +109,7 @@ where
         ensures { OnOk result (TellsPort (W.contents writer.old) (W.contents writer.new)) }
     {
         let (recorder, stubs) = restarted;
-        let recording = JournalHook::new(recorder, self.log, flusher);
+        let recording = JournalHook::new(recorder, self.log, &self.controls.journal_board, flusher);
         let synced = SyncedChore {
             chore: gate.chore,
             flusher,

@@ -353,6 +353,8 @@ where
             server_metrics: &self.controls.server_metrics,
             renewal_board: &self.controls.renewal_board,
             session_board: &self.controls.session_board,
+            journal_board: &self.controls.journal_board,
+            tenant_memory: self.plan.tenant_memory,
             control: self.controls,
         }
     }
