@@ -28,12 +28,13 @@ impl LineStart {
     /// The first 64 bytes of a line, or the whole line.
     fn new(line: &[u8]) -> LineStart {
         let mut bytes = [0; SHOWN_LIMIT];
-        let mut len = 0;
         for (place, byte) in bytes.iter_mut().zip(line) {
             *place = *byte;
-            len += 1;
         }
-        LineStart { bytes, len }
+        LineStart {
+            bytes,
+            len: line.len().min(SHOWN_LIMIT),
+        }
     }
 
     /// Its bytes.
