@@ -84,4 +84,4 @@ tenant_send : IsSend Tenant.the_row
 tenant_send = search (sendable, crosses, definitions_send, database.the_field_send, phases.the_send, entry.the_send, end_lines.the_send, known_lines.the_field_send) depth 40
 
 pub cell_send : IsSend Cell.the_row
-cell_send = search (sendable, crosses, tenant_send, log.the_send, index.the_send, watch.the_send) depth 40
+cell_send = search (sendable, crosses, tenant_send, log.the_send, index.the_send, watch.the_field_send) depth 40
