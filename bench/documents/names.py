@@ -21,7 +21,7 @@ FOR_USERS = {"CLIENTS.md", "COMMANDS.md", "FIRST_RULES.md", "OPERATING.md", "REC
 WORDS = {"requires", "ensures", "Promise", "Machine", "None", "Some", "Copy", "Send", "Sync", "match", "Debug", "PartialEq", "Lts"}
 WORDS |= {"stdin", "stdout", "cc", "callgrind"}
 # what users' pages name of other programs, and a word of the log
-OTHERS = {"stunnel", "MemoryMax", "tax", "a_tax", "connected"}
+OTHERS = {"stunnel", "MemoryMax", "connected"}
 NO_FILE = re.compile(r"FOLDER/.*|.*out/.*|origin/main|[0-9a-f]{16}")
 
 BLOCK = re.compile(r"^ *(?:pub(?:\(crate\))? )?(impl|trait|struct|enum)\b(.*)")
