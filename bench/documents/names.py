@@ -134,7 +134,7 @@ def words_of_users(text):
     """The words of the Python client and of the programs, the names of files, and what stands in the blocks of a page."""
     blocks = re.findall(r"^```.*?^```", text, re.DOTALL | re.MULTILINE)
     files = [file for folder in ("clients", "bench", "examples") for file in (TOP / folder).rglob("*.*") if file.is_file()]
-    texts = blocks + [file.read_text(encoding="utf-8") for file in files if file.suffix in (".py", ".c", ".cfg")]
+    texts = blocks + [file.read_text(encoding="utf-8") for file in files if file.suffix in (".py", ".c", ".cfg", ".service")]
     return {word for text in texts for word in re.findall(r"\w+", text)}
 
 
