@@ -5,7 +5,7 @@
 
 PROGRAM is crates/starhost/out/starhost where no word is given; sqlite3 is Debian's, with its tables in memory. Of most
 loads the processor time counts, without that of the set-up, of workers the time on the clock; the least of N rounds (7).
-What is printed for a load are the rows of its table in docs/PERFORMANCE.md, in milliseconds.
+What is printed for a load are the rows of its table in bench/documents/growth.md, in milliseconds.
 """
 
 import argparse

@@ -6,8 +6,8 @@
 PROGRAM is crates/starhost/out/starhost where no word is given. A WORK is one of bench.benchmarks.beside_sqlite; short, audit
 and cascade where none is named. Each is counted with so many transactions and with twice as many, and the difference is
 what one takes. An instruction is its function's, where the compiler has left it one; a function of a library that is made
-for a type of a crate is that crate's. Printed is the table of PERFORMANCE; with --functions the N dearest functions of each
-work, too.
+for a type of a crate is that crate's. Printed is a row for each crate; with --functions the N dearest functions of each work,
+too.
 """
 
 import argparse

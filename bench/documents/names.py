@@ -21,7 +21,7 @@ FOR_USERS = {"CLIENTS.md", "COMMANDS.md", "FIRST_RULES.md", "OPERATING.md", "REC
 WORDS = {"requires", "ensures", "Promise", "Machine", "None", "Some", "Copy", "Send", "Sync", "match", "Debug", "PartialEq", "Lts"}
 WORDS |= {"stdin", "stdout", "cc", "callgrind"}
 # what users' pages name of other programs, and a word of the log
-OTHERS = {"stunnel", "MemoryMax", "tax", "a_tax", "connected"}
+OTHERS = {"stunnel", "MemoryMax", "connected"}
 NO_FILE = re.compile(r"FOLDER/.*|.*out/.*|origin/main|[0-9a-f]{16}")
 
 BLOCK = re.compile(r"^ *(?:pub(?:\(crate\))? )?(impl|trait|struct|enum)\b(.*)")
@@ -134,7 +134,7 @@ def words_of_users(text):
     """The words of the Python client and of the programs, the names of files, and what stands in the blocks of a page."""
     blocks = re.findall(r"^```.*?^```", text, re.DOTALL | re.MULTILINE)
     files = [file for folder in ("clients", "bench", "examples") for file in (TOP / folder).rglob("*.*") if file.is_file()]
-    texts = blocks + [file.read_text(encoding="utf-8") for file in files if file.suffix in (".py", ".c", ".cfg")]
+    texts = blocks + [file.read_text(encoding="utf-8") for file in files if file.suffix in (".py", ".c", ".cfg", ".service")]
     return {word for text in texts for word in re.findall(r"\w+", text)}
 
 

@@ -1,5 +1,5 @@
 #!/usr/bin/env python3
-"""Draws docs/growth.svg from the tables of docs/PERFORMANCE.md, 'What grows'.
+"""Draws docs/growth.svg from the tables of bench/documents/growth.md.
 
     python3 -m bench.documents.plot [--check]
 
@@ -14,16 +14,15 @@ import sys
 
 from bench.harness import TOP
 
-PAGE, PLOT = TOP / "docs/PERFORMANCE.md", TOP / "docs/growth.svg"
+PAGE, PLOT = TOP / "bench/documents/growth.md", TOP / "docs/growth.svg"
 WIDE, HIGH, ACROSS = 280, 220, 3
 LEFT, RIGHT, ABOVE, BELOW = 48, 14, 34, 40
 COLOURS = ("#0969da", "#9a6700", "#57606a")
 
 
 def tables(text):
-    """Title, names of columns, and rows of numbers of each table behind a title of the third rank."""
-    part = text.split("## What grows")[1].split("\n## ")[0]
-    for title, body in re.findall(r"^### (.*?)\n(.*?)(?=^### |\Z)", part, re.M | re.S):
+    """Title, names of columns, and rows of numbers of each table behind a title of the second rank."""
+    for title, body in re.findall(r"^## (.*?)\n(.*?)(?=^## |\Z)", text, re.M | re.S):
         rows = [[cell.strip() for cell in line.strip("|").split("|")] for line in body.splitlines() if line.startswith("|")]
         yield title, rows[0], [[float(cell.replace(",", "")) for cell in row] for row in rows[2:]]
 
@@ -84,7 +83,7 @@ def picture(panels):
     parts.append(f'<text class="small" x="{x}" y="{y + 24 * len(names) + 10}">both scales by powers; lower is faster</text>')
     return (
         f'<svg xmlns="http://www.w3.org/2000/svg" viewBox="0 0 {ACROSS * WIDE} {rank * HIGH}" font-family="sans-serif" font-size="14">\n'
-        "  <title>Time against size, from the tables of PERFORMANCE.md</title>\n"
+        "  <title>Time against size, from the tables of bench/documents/growth.md</title>\n"
         "  <style>.small { font-size: 12px; fill: #57606a; } .grid { stroke: #d0d7de; }</style>\n"
         + "".join(f"  {part}\n" for part in parts)
         + "</svg>\n"

@@ -1,6 +1,6 @@
 #!/usr/bin/env python3
-"""Whether the table of docs/SQLSTATES.md is that of the code: each SQLSTATE of crates/sb_postgres/src/told/sqlstate.rt with its
-name, and with the refusals that have it, in the order of the code.
+"""Whether the table of crates/sb_postgres/README.md is that of the code: each SQLSTATE of src/told/sqlstate.rt there with
+its name, and with the refusals that have it, in the order of the code.
 
     python3 -m bench.documents.sqlstates
 
@@ -30,7 +30,7 @@ def rows_of_code(text):
 
 def main():
     code = rows_of_code((TOP / "crates/sb_postgres/src/told/sqlstate.rt").read_text(encoding="utf-8"))
-    page = ROW.findall((TOP / "docs/SQLSTATES.md").read_text(encoding="utf-8"))
+    page = ROW.findall((TOP / "crates/sb_postgres/README.md").read_text(encoding="utf-8"))
     differ = [f"only in the code: {row}" for row in code if row not in page] + [f"only on the page: {row}" for row in page if row not in code]
     if not differ and code != page:
         differ = ["the rows stand in another order"]
