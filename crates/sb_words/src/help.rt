@@ -86,7 +86,7 @@ impl Argument {
                 "The tenants' numbers begin at N: at most 999999000\n[default: 0]"
             }
             Argument::TenantMemory => {
-                "What a tenant's trail and open transactions may take:\nat most 1048576; 0 is as much as there is [default: 0]"
+                "What a tenant's trail, rows and transactions may take:\nat most 1048576; 0 is as much as there is [default: 0]"
             }
             Argument::Segment => {
                 "The journal goes on in a new file where one has so much:\nat most 65536 [default: 64]"
