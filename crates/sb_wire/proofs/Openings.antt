@@ -25,7 +25,7 @@ module _ (tenants : ℕ) (bound : Bound) (c : Cell) (new : IsNew 0 1 tenants bou
   fresh-output : (input text : List ℕ) (after : Cell) → AnswersInput c input text after → IsOutput (λ t. nat_lt t tenants) bound (λ t. opening) input text (states after)
   fresh-output input text after told =
       subst (λ (h : ℕ → Bool). IsOutput h bound (λ t. opening) input text (states after)) below
-      (subst (λ (k : ℕ). IsOutput (hosts c) k (λ t. opening) input text (states after)) new.at_most
+      (subst (λ (k : Bound). IsOutput (hosts c) k (λ t. opening) input text (states after)) new.at_most
       (subst (λ (s : ℕ → State). IsOutput (hosts c) c.bound s input text (states after)) at_start told.answers))
 
   pub fresh-answers : (input text : List ℕ) (after : Cell) → AnswersInput c input text after → AnswersFresh tenants bound input text
