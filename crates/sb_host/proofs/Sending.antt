@@ -13,6 +13,7 @@ use Rattle.crossbeam_utils.proofs.cache_padded.CachePadded.TheSendSync as padded
 use Rattle.crossbeam_utils.specs.contracts.cache_padded.CachePadded as CachePadded
 use Rattle.atomic_table.proofs.shared.Seat.TheSendSync as seat
 use Rattle.atomic_table.proofs.owned.Table.TheSendSync as seats
+use Rattle.sb_process.proofs.step_watch.StepWatch.TheSendSync as watch
 use Rattle.sb_desk.specs.declared.naming.Naming as naming
 use Rattle.sb_desk.specs.contracts.desk.Desk as Desk
 use Rattle.sb_desk.specs.contracts.desk.Desk.TheInside as desk
@@ -45,7 +46,7 @@ module _ (N : RattleType) (n : naming.Ghosts N.Denot) (l : ledger.Ghosts N.Denot
   lock_group_sync A B C D = view_sync (lock_group.the_row N A B C D n l) _ _ _ _ (search (sendable, crosses, frees, held_sync) depth 40)
 
   pub host_sync : IsSync (Host.the_row N n l)
-  host_sync = view_sync (host.the_row N n l) _ _ _ _ (search (sendable, crosses, frees, send, sync, lock_group_sync, seats.the_field_sync, closed_parts.the_field_sync) depth 40)
+  host_sync = view_sync (host.the_row N n l) _ _ _ _ (search (sendable, crosses, frees, send, sync, lock_group_sync, seats.the_field_sync, closed_parts.the_field_sync, watch.the_field_sync) depth 40)
 
   pub session_send : (κ : NamedLft) → IsSend (Session.the_row κ N n l)
   session_send κ = view_send (session.the_row κ N n l) _ _ _ _ (search (sendable, crosses, host_sync, receipts.the_send) depth 40)

@@ -1,6 +1,7 @@
 use Rattle.std.proofs.Common.{◌≡◌, ℕ, ◌<◌, ◌==◌, cond, All, List, ◌∷◌, length, length-set, sym, ap, ◌∙◌, subst, arith}
 use Rattle.std.specs.Vec.Iter.{into_iter_items}
 use Rattle.std.proofs.lemmas.List.Elements.{All-head, All-same, All-tail}
+use Rattle.sb_tenant.specs.declared.bound.Bound.{Bound}
 use Rattle.sb_tenant.specs.declared.reply.Entry.{Entry}
 use Rattle.sb_tenant.specs.declared.volume.Volume.{Volume}
 use Rattle.sb_tenant.specs.Tenant.{Tenant}
@@ -24,7 +25,7 @@ loop-tenant-preserved g c =
     let rows = c.loop-tenant.trails.items in
     let number : c.index-at.result ≡ c.in-Some.tenant.id = c.index-at.ensures.value ∙ c.id.ensures in
     let legal : IsTrail c.in-Some.tenant.id g.bound v.items =
-    subst (λ (p : ℕ × List Entry). IsTrail c.in-Some.tenant.id p.0 p.1) (λ i. (here.1 i, sym c.into_trail.ensures.value i)) c.into_trail.ensures.legal in
+    subst (λ (p : Bound × List Entry). IsTrail c.in-Some.tenant.id p.0 p.1) (λ i. (here.1 i, sym c.into_trail.ensures.value i)) c.into_trail.ensures.legal in
     let long = inv.long in
     let below : c.index-at.result < length rows = omega (arith, here.0, number, long) in
     let volumes = c.loop-tenant.volumes.items in
