@@ -13,7 +13,7 @@ use Rattle.crossbeam_utils.proofs.cache_padded.CachePadded.TheSendSync as padded
 use Rattle.crossbeam_utils.specs.contracts.cache_padded.CachePadded as CachePadded
 use Rattle.atomic_table.proofs.shared.Seat.TheSendSync as seat
 use Rattle.atomic_table.proofs.owned.Table.TheSendSync as seats
-use Rattle.sb_process.proofs.step_watch.StepWatch.TheSendSync as watch
+use Rattle.sb_tenant.below.sb_process.proofs.step_watch.StepWatch.TheSendSync as watch
 use Rattle.sb_desk.specs.declared.naming.Naming as naming
 use Rattle.sb_desk.specs.contracts.desk.Desk as Desk
 use Rattle.sb_desk.specs.contracts.desk.Desk.TheInside as desk
