@@ -38,7 +38,7 @@ are-append (x ∷ xs) ys first then = (first.0, are-append xs ys first.1 then)
 -- ---- by the bound and the tenants of a cell
 
 abbrev Kind : Type 0
-Kind = ℕ × (ℕ → Bool)
+Kind = Bound × (ℕ → Bool)
 
 abbrev kind_of : Cell → Kind
 kind_of c = (c.bound, hosts c)
