@@ -5,7 +5,6 @@ ghost use Rattle.sb_status.specs.declared.text.Escaping.TheVariants as escaping;
 
 use crate::refusal_names::refusal_name;
 use crate::renewal_board::RenewalBoard;
-use crate::running_steps::LongStep;
 use sb_server::{Cause, Count, LIMITS, ServerMetrics, SlowLine};
 use sb_status::{
     Activity, Bucket, Histogram, HostNumbers, HostView, JournalNumbers, Refused, RenewalNumbers,
@@ -37,8 +36,7 @@ pub(crate) struct Overview {
     pub(crate) tenants: Vec<TenantNumbers>,
     pub(crate) host: HostNumbers<'static>,
     pub(crate) counted: Counted,
-    pub(crate) first_tenant: u32,
-    pub(crate) running: Vec<LongStep>,
+    pub(crate) running: Vec<RunningStepView>,
     pub(crate) journal: Option<JournalNumbers>,
 }
 
@@ -48,38 +46,31 @@ impl Overview {
         ensures { IfOk result (λ page. IsPage escaping.Html page.items) }
     {
         let slowest = self.counted.slowest(alloc)?;
-        let running = self.running(alloc)?;
-        host_page(alloc, self.view(slowest.as_slice(), running.as_slice()))
+        host_page(alloc, self.view(slowest.as_slice()))
     }
 
     /// Its samples.
     pub(crate) fn samples(&self, alloc: Global) -> Result<Vec<u8>, AllocError>
         ensures { IfOk result (λ samples. IsPage escaping.Label samples.items) }
     {
-        metrics(alloc, self.view(&[], &[]))
+        metrics(alloc, self.view(&[]))
     }
 
-    /// The steps that run for long.
-    fn running(&self, alloc: Global) -> Result<Vec<RunningStepView<'_>>, AllocError> {
-        let mut views = Vec::new(alloc);
-        for step in self.running.as_slice() {
-            views.push(step.view(self.first_tenant))?;
-        }
-        Ok(views)
-    }
-
-    /// All of it, with these lines and steps.
-    fn view<'v>(
-        &'v self,
-        slowest: &'v [SlowView<'v>],
-        running: &'v [RunningStepView<'v>],
-    ) -> HostView<'v> {
-        let mut activity = self.counted.activity(slowest);
-        activity.running = running;
-        activity.journal = self.journal;
+    /// All of it, with these lines.
+    fn view<'v>(&'v self, slowest: &'v [SlowView<'v>]) -> HostView<'v> {
         HostView {
             host: self.host,
-            activity,
+            activity: Activity {
+                workers: self.counted.workers.as_slice(),
+                considerations: self.counted.considerations,
+                rollbacks: self.counted.rollbacks,
+                refusals: self.counted.refusals.as_slice(),
+                renewals: self.counted.renewals,
+                times: self.counted.times(),
+                slowest,
+                running: self.running.as_slice(),
+                journal: self.journal,
+            },
             tenants: self.tenants.as_slice(),
         }
     }
@@ -133,22 +124,12 @@ impl Counted {
         Ok(views)
     }
 
-    /// All of it, with these lines.
-    fn activity<'v>(&'v self, slowest: &'v [SlowView<'v>]) -> Activity<'v> {
-        Activity {
-            workers: self.workers.as_slice(),
-            considerations: self.considerations,
-            rollbacks: self.rollbacks,
-            refusals: self.refusals.as_slice(),
-            renewals: self.renewals,
-            times: Histogram {
-                buckets: self.buckets.as_slice(),
-                others: self.others,
-                micros: self.micros,
-            },
-            slowest,
-            running: &[],
-            journal: None,
+    /// How long lines took.
+    fn times(&self) -> Histogram<'_> {
+        Histogram {
+            buckets: self.buckets.as_slice(),
+            others: self.others,
+            micros: self.micros,
         }
     }
 }

@@ -235,8 +235,7 @@ impl<'k, H: Lending, A: Admission, T: Wait + Clock, E: ServerControl> Pages<'k, 
             tenants: self.all_numbers(cache)?,
             host: self.host_numbers(),
             counted: Counted::read(self.rt, self.alloc, self.server_metrics, self.renewal_board)?,
-            first_tenant: self.first_tenant,
-            running: long_steps(self.alloc, self.host)?,
+            running: long_steps(self.alloc, self.host, self.first_tenant)?,
             journal: self.journal_board.numbers(self.rt),
         })
     }

@@ -1,6 +1,6 @@
 //! Steps that run for more than a second: they are logged and shown while they run.
 
-use sb_host::{Lending, RunningConsideration, RunningStep, StepWatch};
+use sb_host::{Lending, RunningStep, StepWatch};
 use sb_status::RunningStepView;
 use sb_words::{Log, Severity};
 use std::alloc::{AllocError, Global};
@@ -28,17 +28,15 @@ impl<'o, H: Lending, O: Log> RunningSteps<'o, H, O> {
     fn look_at(&self, watch: &StepWatch) {
         if let Some(step) = watch.look() {
             if step.seconds == 1 {
-                self.log_step(&LongStep::read(watch, step));
+                self.log_step(&view_of(watch, &step, self.first_tenant));
             }
         }
     }
 
     /// Logs a step that runs.
-    fn log_step(&self, step: &LongStep) {
-        let LongStep { step, newest } = step;
-        let tenant = u64::from(self.first_tenant) + u64::from(step.tenant);
-        let (session, considered) = (step.session, step.considered);
-        match newest {
+    fn log_step(&self, step: &RunningStepView) {
+        let (tenant, session, considered) = (step.tenant, step.session, step.considered);
+        match &step.newest {
             Some(newest) => {
                 let rule = newest.rule.as_slice().escape_ascii();
                 let line = newest.line.as_slice().escape_ascii();
@@ -57,44 +55,26 @@ impl<'o, H: Lending, O: Log> RunningSteps<'o, H, O> {
     }
 }
 
-/// A step that has run for more than a second, copied from its watch.
-#[derive(Drop)]
-pub(crate) struct LongStep {
-    step: RunningStep,
-    /// None where it has considered no rule.
-    newest: Option<RunningConsideration>,
-}
-
-impl LongStep {
-    fn read(watch: &StepWatch, step: RunningStep) -> LongStep {
-        LongStep {
-            newest: watch.consideration(&step),
-            step,
-        }
-    }
-
-    /// As a page shows it. The tenants' numbers begin at `first_tenant`.
-    pub(crate) fn view(&self, first_tenant: u32) -> RunningStepView<'_> {
-        let (rule, line): (&[u8], &[u8]) = match &self.newest {
-            Some(newest) => (newest.rule.as_slice(), newest.line.as_slice()),
-            None => (&[], &[]),
-        };
-        RunningStepView {
-            tenant: u64::from(first_tenant) + u64::from(self.step.tenant),
-            session: u64::from(self.step.session),
-            seconds: self.step.seconds,
-            considered: self.step.considered,
-            rule,
-            line,
-        }
+/// A step as pages show it. The tenants' numbers begin at `first_tenant`.
+fn view_of(watch: &StepWatch, step: &RunningStep, first_tenant: u32) -> RunningStepView {
+    RunningStepView {
+        tenant: u64::from(first_tenant) + u64::from(step.tenant),
+        session: u64::from(step.session),
+        seconds: step.seconds,
+        considered: step.considered,
+        newest: watch.consideration(step),
     }
 }
 
 /// The steps of a host that have run for more than a second, by their cells. Error: out of memory.
-pub(crate) fn long_steps<H: Lending>(alloc: Global, host: H) -> Result<Vec<LongStep>, AllocError> {
+pub(crate) fn long_steps<H: Lending>(
+    alloc: Global,
+    host: H,
+    first_tenant: u32,
+) -> Result<Vec<RunningStepView>, AllocError> {
     let mut steps = Vec::new(alloc);
     for cell in 0..host.cells() {
-        if let Some(step) = long_step(host, cell as usize) {
+        if let Some(step) = long_step(host, cell as usize, first_tenant) {
             steps.push(step)?;
         }
     }
@@ -102,11 +82,11 @@ pub(crate) fn long_steps<H: Lending>(alloc: Global, host: H) -> Result<Vec<LongS
 }
 
 /// The step of a cell, if it has run for more than a second.
-fn long_step<H: Lending>(host: H, cell: usize) -> Option<LongStep> {
+fn long_step<H: Lending>(host: H, cell: usize, first_tenant: u32) -> Option<RunningStepView> {
     let watch = host.watch(cell)?;
     let step = watch.running()?;
     match step.seconds {
         0 => None,
-        _ => Some(LongStep::read(watch, step)),
+        _ => Some(view_of(watch, &step, first_tenant)),
     }
 }

@@ -4,6 +4,7 @@ use crate::fragment::Fragment;
 use crate::markup::Markup;
 use crate::page::Page;
 use crate::view::{Activity, Refused, Rollbacks, RunningStepView, SlowView, WorkerNumbers};
+use sb_host::RunningConsideration;
 use std::alloc::AllocError;
 
 /// The marks of a row of two cells.
@@ -153,7 +154,7 @@ pub(crate) fn write_slowest<'v>(
 /// Writes the steps that run for long, if there are some.
 pub(crate) fn write_running<'v>(
     page: &mut Page<'v>,
-    steps: &'v [RunningStepView<'v>],
+    steps: &'v [RunningStepView],
 ) -> Result<(), AllocError> {
     if steps.is_empty() {
         return Ok(());
@@ -165,11 +166,23 @@ pub(crate) fn write_running<'v>(
         page.mark(Markup::LinkEnd)?;
         page.count(Markup::Cell, step.session)?;
         page.cells(&[step.seconds, step.considered])?;
-        page.mark(Markup::Cell)?;
-        page.text(step.rule)?;
-        page.mark(Markup::PreCell)?;
-        page.text(step.line)?;
-        page.mark(Markup::PreRowEnd)?;
+        write_consideration(page, &step.newest)?;
     }
     page.mark(Markup::TableEnd)
+}
+
+/// Writes the cells of a rule and of its line, which are empty where there is no consideration.
+fn write_consideration<'v>(
+    page: &mut Page<'v>,
+    newest: &'v Option<RunningConsideration>,
+) -> Result<(), AllocError> {
+    page.mark(Markup::Cell)?;
+    if let Some(consideration) = newest {
+        page.text(consideration.rule.as_slice())?;
+    }
+    page.mark(Markup::PreCell)?;
+    if let Some(consideration) = newest {
+        page.text(consideration.line.as_slice())?;
+    }
+    page.mark(Markup::PreRowEnd)
 }

@@ -1,6 +1,7 @@
 //! What pages are made of: numbers, names and texts, copied from wherever they are kept.
 
 use crate::graph::Graph;
+use sb_host::RunningConsideration;
 
 /// The numbers of a server.
 #[derive(Clone, Copy)]
@@ -112,16 +113,14 @@ pub struct SlowView<'a> {
 
 /// A step that has run for more than a second, and runs.
 #[derive(Clone, Copy)]
-pub struct RunningStepView<'a> {
+pub struct RunningStepView {
     pub tenant: u64,
     pub session: u64,
     pub seconds: u64,
     /// How many rules it has considered.
     pub considered: u64,
-    /// The rule that it considers. Empty where it has considered none.
-    pub rule: &'a [u8],
-    /// The first bytes of its line. Empty where it has considered no rule.
-    pub line: &'a [u8],
+    /// None where it has considered no rule.
+    pub newest: Option<RunningConsideration>,
 }
 
 /// The commits of a server's journal.
@@ -156,7 +155,7 @@ pub struct Activity<'a> {
     /// The lines that took longest, the slowest first.
     pub slowest: &'a [SlowView<'a>],
     /// The steps that have run for more than a second, by their cells.
-    pub running: &'a [RunningStepView<'a>],
+    pub running: &'a [RunningStepView],
     /// None where the server has no journal.
     pub journal: Option<JournalNumbers>,
 }
