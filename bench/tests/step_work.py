@@ -7,8 +7,8 @@ PROGRAM is crates/starhost/out/starhost where no word is given. A step is the la
 commit with the rules that it considers. The search changes a step at random, its tables, its condition or its rules, and
 goes on from those that took longest. It looks for N seconds (40), and begins with what is known to be dear. The processor
 time of the step counts. If one takes more than 1.5 seconds for each 2^26 units of work, it is printed, and this ends with
-status 1. With --table the dearest step is looked for at several budgets, and what is printed are rows of the table in
-docs/OPERATING.md.
+status 1. On a processor that takes longer for a loop of Python than one of 2.5 GHz, a step may take as much longer. With
+--table the dearest step is looked for at several budgets, and what is printed are rows of the table in docs/OPERATING.md.
 """
 
 import argparse
@@ -24,6 +24,8 @@ from bench.harness import BUILT, need
 
 WORK = 2**26
 SECONDS = 1.5
+# seconds of `slowness`'s loop on a processor for which SECONDS holds
+LOOP = 0.085
 LINE = 4096 - len("0 0 ")
 COMPARISONS = ("{0}.a={1}.b", "{0}.a<{1}.b", "{0}.c={1}.c", "{0}.c<{1}.c", "{0}.a+{1}.b*{0}.b<{1}.a", "{0}.a<>7")
 SOURCES = ("t", "u", "one", "none")
@@ -123,6 +125,17 @@ def processor_seconds(process):
         with open(name) as file:
             total += int(file.read().split()[0])
     return total / 1e9
+
+
+def slowness():
+    """How many times as long as there a loop takes here, and at least once."""
+    taken = []
+    for _time in range(7):
+        begun, found = time.process_time(), 0
+        for number in range(1_000_000):
+            found ^= number * 7 & 1023
+        taken.append(time.process_time() - begun)
+    return max(1, min(taken) / LOOP)
 
 
 def ask(process, lines, patience):
@@ -294,7 +307,7 @@ def main():
     given = words.parse_args()
     if given.table:
         return tell_table(given.program, given)
-    most = SECONDS * given.work / WORK
+    most = SECONDS * given.work / WORK * slowness()
     taken, step, reply = search(given.program, given.work, given.seconds, given.seed)
     need(taken <= most, f"{taken:.2f} s for {reply}: {script_of(step)}")
     print(f"the dearest step of {given.work:,} units of work: {taken:.2f} s, a {step.kind}")
