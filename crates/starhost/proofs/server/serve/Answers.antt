@@ -13,7 +13,7 @@ opened_by-requires-clause-tenants g c =
     (omega (arith, plan.1, run.0), omega (arith, plan.1, run.1), subst (λ (b : Bound). b.considerations ≤ 1000) (sym plan.3) run.3)
 
 pub serve_host-requires-clause-bound : goal.serve_host-requires-clause-bound
-serve_host-requires-clause-bound g c = subst (λ (b : Bound). b.considerations ≤ 1000) (sym c.plan_of-plan.ensures.3) c.requires.0.0.3
+serve_host-requires-clause-bound g c = λ κs outlive. subst (λ (b : Bound). b.considerations ≤ 1000) (sym c.plan_of-plan.ensures.3) c.requires.0.0.3
 
 -- the host has the numbers of the plan, and the plan those of the words
 pub returns-in-Ok-clause-ok : goal.returns-in-Ok-clause-ok
