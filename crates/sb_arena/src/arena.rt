@@ -5,7 +5,7 @@ use crate::block::Block;
 use std::alloc::{AllocError, Global};
 use std::marker::Model;
 
-/// How many places a block has. One is got, or given back, in well under a millisecond.
+/// The number of places of a block. One is got, or given back, in well under a millisecond.
 pub const BLOCK_PLACES: usize = 4_096;
 
 /// Places with numbers, each free or with a value. None is moved, however many there are.

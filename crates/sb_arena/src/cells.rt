@@ -10,7 +10,7 @@ use std::alloc::{AllocError, Allocator};
 use std::marker::{Model, PhantomData};
 use std::mem::{align_of, size_of};
 
-/// Where a block begins. It owns nothing, so it is copied freely.
+/// The start of a block. It owns nothing, so it is copied freely.
 pub(crate) struct Start<T> {
     ptr: *mut T,
 }

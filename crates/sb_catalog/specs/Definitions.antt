@@ -33,7 +33,7 @@ members_named sets rules set names = required (has_name sets set) NoRuleset (rul
 abbrev pub members : Definitions → Name → List Name → Result (List ℕ) Refusal
 members d set names = members_named d.rulesets d.rules set names
 
--- whether the rule is in the ruleset of that name
+-- true if the rule is in the ruleset of that name
 abbrev pub is_member : List Ruleset → Name → ℕ → Bool
 is_member sets set id = flag_at (unwrap_or (members_of sets set) []) id
 

@@ -42,15 +42,15 @@ abbrev pub AreThere : List Rule → List ℕ → Type 0
 AreThere rules ids =
     (id : ℕ) → IsTrue (list_any (λ k. k == id) ids) → IsTrue (list_any (λ k. k == id) (map (λ r. r.id) rules))
 
--- whether there is a rule of that name
+-- true if there is a rule of that name
 abbrev pub has_name : List Rule → List ℕ → Bool
 has_name rules name = list_any (λ r. same_name r.name name) rules
 
--- whether the rule of that number is active
+-- true if the rule of that number is active
 abbrev pub is_active : List Rule → ℕ → Bool
 is_active rules id = list_any (λ r. (r.id == id) && r.active) rules
 
--- whether one more rule may be made
+-- true if one more rule may be made
 abbrev pub has_room : List Rule → Bool
 has_room rules = nat_lt (length rules) rule_limit
 

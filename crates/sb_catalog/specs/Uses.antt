@@ -19,11 +19,11 @@ is_table id Deleted = false
 is_table id OldUpdated = false
 is_table id NewUpdated = false
 
--- whether the table is among the sources
+-- true if the table is among the sources
 abbrev pub has_source : ℕ → List Source → Bool
 has_source id sources = list_any (is_table id) sources
 
--- whether a statement has the table as its target or among its sources
+-- true if a statement has the table as its target or among its sources
 abbrev pub statement_names : ℕ → Statement → Bool
 statement_names id (InsertRows t rows) = t == id
 statement_names id (InsertQuery t q) = (t == id) || has_source id (query_sources q)
@@ -41,7 +41,7 @@ abbrev pub condition_names : ℕ → Option Query → Bool
 condition_names id None = false
 condition_names id (Some q) = has_source id (query_sources q)
 
--- whether a rule is on the table or names it
+-- true if a rule is on the table or names it
 abbrev pub rule_names : ℕ → Rule → Bool
 rule_names id rule =
     (rule.table == id) || (condition_names id rule.condition || list_any (action_names id) rule.actions)

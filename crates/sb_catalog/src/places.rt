@@ -1,4 +1,4 @@
-//! Where the rules stand in the order of creation, by their numbers.
+//! The places of the rules in the order of creation, by their numbers.
 ghost use Rattle.std.specs.Prelude.{◌≡◌, ◌<◌, length, map, slice_set};
 ghost use Rattle.sb_catalog.specs.Places.{place_at, closed};
 

@@ -135,7 +135,7 @@ impl Rulesets {
         self.sets.get(name).copied()
     }
 
-    /// How many rulesets there are.
+    /// The number of rulesets.
     pub fn len(&self) -> usize
         ensures { result ≡ length self.now }
     {

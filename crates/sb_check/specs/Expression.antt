@@ -16,7 +16,7 @@ pub data Expression : Type 0 where
   column : Column → Expression
   binary : Expression → Arithmetic → Expression → Expression
 
--- how deep an expression is
+-- the depth of an expression
 abbrev pub depth : Expression → ℕ
 depth (literal v) = 0
 depth (column c) = 0

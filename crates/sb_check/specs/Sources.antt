@@ -9,7 +9,7 @@ use Rattle.sb_check.specs.declared.tree.Source.TheVariants.{Table, Inserted, Del
 use Rattle.sb_check.specs.Names.{and_then, Visible}
 use Rattle.sb_check.specs.Walk.{Schema, has_updates, walk_sources}
 
--- whether a rule with these triggers has that transition table
+-- true if a rule with these triggers has that transition table
 abbrev pub has_trigger : Source → Triggers → Bool
 has_trigger (Table id) triggers = false
 has_trigger Inserted triggers = triggers.inserted

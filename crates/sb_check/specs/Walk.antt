@@ -77,7 +77,7 @@ transition_source schema has form =
       | Some rule ↦ required (has rule.1) refusal.BadTransition (Ok (form, rule.0))
     ]
 
--- whether a rule is triggered by updates of any kind
+-- true if a rule is triggered by updates of any kind
 abbrev pub has_updates : Triggers → Bool
 has_updates triggers = triggers.updated || list_any (λ b. b) triggers.columns
 

@@ -17,7 +17,7 @@ use sb_syntax::{Command, Definition, TransactionCommand};
 use sb_value::{ColumnDefinition, Name, Refusal, TableId};
 use std::alloc::Global;
 
-/// What the tables tell of a command. `Plain` names nothing that they know.
+/// A command by the tables. `Plain` names nothing that they know.
 #[derive(Drop)]
 pub enum Resolved {
     Plain,

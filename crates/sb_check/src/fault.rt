@@ -37,7 +37,7 @@ impl Reason {
     ghost use Rattle.std.specs.Prelude.{◌≡◌};
     ghost use Rattle.sb_check.specs.Answer.{refusal_of};
 
-    /// What the command is answered.
+    /// The answer to the command.
     pub(crate) fn refusal(self) -> Refusal
         ensures { result ≡ refusal_of self }
     {
@@ -57,7 +57,7 @@ impl CheckFault {
     ghost use Rattle.std.specs.Prelude.{◌≡◌};
     ghost use Rattle.sb_check.specs.Answer.{refused};
 
-    /// What the command is answered.
+    /// The answer to the command.
     pub(crate) fn refusal(self) -> Refusal
         ensures { result ≡ refused self }
     {

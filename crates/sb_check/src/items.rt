@@ -1,4 +1,4 @@
-//! What a query lists, and the types of its columns.
+//! The items of a query, and the types of its columns.
 ghost use Rattle.std.specs.Prelude.{◌≡◌, [], ◌∷◌, ◌++◌, map, flat_map, OnOk, IfOk};
 ghost use Rattle.sb_syntax.specs.Tree.{sum_of};
 ghost use Rattle.sb_check.specs.Answer.{Gives};

@@ -3,7 +3,7 @@ ghost use Rattle.sb_check.specs.Fits.{ResolvedCommandsFit};
 ghost use Rattle.sb_check.specs.Sees.{QueriesWalkAlike, StatementsWalkAlike};
 ghost use Rattle.sb_check.specs.There.{ResolvedAlterationsAreThere, ResolvedQueriesAreThere, ResolvedRulesAreThere, ResolvedStatementsAreThere};
 
-/// What the walk resolves fits the tables.
+/// Each tree that the walk resolves fits the tables.
 pub fn resolved_commands_fit()
     ensures { ResolvedCommandsFit }
 {}

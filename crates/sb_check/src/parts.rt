@@ -54,7 +54,7 @@ pub fn resolve_rule<'s, S: Schema>(
 ) -> Result<RuleParts, Refusal>
     ensures value { Answers rule_parts (walk_parts (S.names schema.now) (view.rule text.now)) result }
 
-    // What takes no memory to look up isn't answered as want of memory.
+    // A look-up that takes no memory isn't answered as want of memory.
     ensures head { (e : Refusal) → walk_head (S.names schema.now) (view.rule text.now) ≡ Err e → result ≡ Err e }
 {
     match rule(alloc, text, schema) {

@@ -1,4 +1,4 @@
-//! What a command may name: the tables, and in a rule its table's columns and its triggers.
+//! The names that a command may use: the tables, and in a rule its table's columns and its triggers.
 ghost use Rattle.std.specs.Prelude.{◌≡◌, option_map};
 ghost use Rattle.sb_check.specs.Lent.{NumbersTellColumns, rule_lent, seen_named, table_lent};
 ghost use Rattle.sb_check.specs.Walk.{Schema as Names};
@@ -20,7 +20,7 @@ pub struct RuleEntry<'a> {
     pub triggers: Triggers,
 }
 
-/// What a command may name.
+/// The names that a command may use.
 pub trait Schema {
     /// The tables with their names, and in a rule its table's columns and its triggers.
     ghost names: { Self → Names };
@@ -38,7 +38,7 @@ pub trait Schema {
         ensures { NumbersTellColumns (names self.now).tables };
 }
 
-/// What a rule's condition and actions may name.
+/// The names that a rule's condition and actions may use.
 #[derive(Drop)]
 pub struct InRule<'a, S> {
     pub outside: &'a S,

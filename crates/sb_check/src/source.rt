@@ -60,7 +60,7 @@ impl<'a> SeenSources<'a> {
         Ok(())
     }
 
-    /// What the query sees.
+    /// The scope of the query.
     pub(crate) fn visible(&self) -> &[Visible<'a>]
         ensures { result.now ≡ self.now.1 }
     {

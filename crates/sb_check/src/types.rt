@@ -69,7 +69,7 @@ impl Types {
         Ok(())
     }
 
-    /// How many there are.
+    /// The number of types.
     pub(crate) fn len(&self) -> usize
         ensures { result ≡ length self.now }
     {

@@ -12,7 +12,7 @@ pub trait SourceVisitor {
     /// Why it won't be shown more.
     type Stop;
 
-    /// How it is after a source.
+    /// The visit after a source.
     ghost after: { Self → Shown → Self };
 
     /// Shows it a source.

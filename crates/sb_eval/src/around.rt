@@ -1,8 +1,8 @@
-//! What is around a condition while it is evaluated.
+//! The surroundings of a condition while it is evaluated.
 
 use sb_plan::{Scope, Sources};
 
-/// What a statement sees, and the combinations of the queries around a condition.
+/// The sources of a statement, and the combinations of the queries around a condition.
 #[derive(Drop)]
 pub(crate) struct Around<'w, 'r, S: Sources> {
     pub(crate) sources: &'r S,

@@ -5,7 +5,7 @@ ghost use Rattle.sb_eval.specs.Chain.{AreJoined, AreUndecided, neutral};
 
 use sb_rows::Selection;
 
-/// How the parts of a chain are joined: by `or`, or by `and`.
+/// The connective of a chain: its parts are joined by `or`, or by `and`.
 #[derive(Clone, Copy)]
 pub(crate) enum Chain {
     Or,

@@ -18,7 +18,7 @@ use smallvec::SmallVec;
 use std::alloc::{AllocError, Global};
 use std::marker::Model;
 
-/// What a statement does to each row for which its condition is true.
+/// The effect of a statement on each row for which its condition is true.
 #[derive(Drop)]
 pub(crate) enum RowEffect<'a> {
     Delete,
@@ -219,7 +219,7 @@ fn assigned_row<'r, S: Sources>(
     Ok(row.to_row(alloc)?)
 }
 
-/// What stays the same while the rows of a statement's table are walked through.
+/// The parts of a walk that stay the same while it goes through the rows of a statement's table.
 #[derive(Drop)]
 pub(crate) struct TableWalk<'w, 'r, S: Sources> {
     pub(crate) effect: &'w RowEffect<'r>,

@@ -6,7 +6,7 @@ use std::alloc::{AllocError, AllocFailed};
 /// Why an evaluation ends before its end.
 #[derive(Clone, Copy)]
 pub(crate) enum Stop {
-    /// What is evaluated has no value, since a number leaves the range of integers; or a walk that looks for a row alone
+    /// There is no value, since a number leaves the range of integers; or a walk that looks for a row alone
     /// has found one.
     NoValue,
     NoMemory,
@@ -38,7 +38,7 @@ impl Stop {
     ghost use Rattle.std.specs.Prelude.{◌≡◌};
     ghost use Rattle.sb_eval.specs.Refused.{error_of};
 
-    /// What the caller is answered.
+    /// The answer to the caller.
     pub(crate) fn error(self) -> EvalError
         ensures { result ≡ error_of self }
     {

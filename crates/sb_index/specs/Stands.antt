@@ -22,7 +22,7 @@ in_table table o rule = flag_at (rules_at table o) rule
 abbrev pub with_table_rule : TableSets → ℕ → Triggers → Operation → ℕ → Bool
 with_table_rule table rule triggers o r = in_table table o r || ((r == rule) && names triggers o)
 
--- whether an update of the column triggers the rule
+-- true if an update of the column triggers the rule
 abbrev pub in_column : List (List Bool) → ℕ → ℕ → Bool
 in_column columns k rule = flag_at (slice_index_or columns k []) rule
 
@@ -61,11 +61,11 @@ with_tenant_rule tables table rule triggers t o r = in_tenant tables t o r || ((
 abbrev pub without_tenant_rule : List TableSets → ℕ → ℕ → Operation → ℕ → Bool
 without_tenant_rule tables rule t o r = in_tenant tables t o r && not (r == rule)
 
--- whether a change of one of a tenant's tables is one of the rule's operations
+-- true if a change of one of a tenant's tables is one of the rule's operations
 abbrev pub triggers_here : List TableSets → Change → ℕ → Bool
 triggers_here tables change rule = kind_triggers change.kind (triggers_in (slice_index_or tables change.table no_table) rule) change
 
--- whether the operation on the tenant's table triggers the rule
+-- true if the operation on the tenant's table triggers the rule
 abbrev pub stands : List (List TableSets) → ℕ → ℕ → Operation → ℕ → Bool
 stands index tenant table o rule = in_tenant (slice_index_or index tenant []) table o rule
 
@@ -86,6 +86,6 @@ with_rule index tenant table rule triggers n t o r =
 abbrev pub without_rule : List (List TableSets) → ℕ → ℕ → ℕ → ℕ → Operation → ℕ → Bool
 without_rule index tenant rule n t o r = stands index n t o r && not ((n == tenant) && (r == rule))
 
--- whether a change is one of the rule's operations
+-- true if a change is one of the rule's operations
 abbrev pub triggers_by : List (List TableSets) → Change → ℕ → Bool
 triggers_by index change rule = kind_triggers change.kind (triggers_of index change.tenant change.table rule) change

@@ -10,7 +10,7 @@ pub record Holders : Type 0 where
   pub readers : List ℕ
   pub writers : List ℕ
 
--- whether the session is one of the holders
+-- true if the session is one of the holders
 abbrev pub has : ℕ → ℕ → Bool
 has holders session = bit_at holders session == 1
 
@@ -27,6 +27,6 @@ Agree one other = (s t : ℕ) (m : LockMode) → one s t m ≡ other s t m
 abbrev pub with_lock : Locks → ℕ → ℕ → LockMode → Locks
 with_lock locks session table mode s t m = locks s t m || ((s == session) && ((table == t) && same_mode mode m))
 
--- whether the session is one of the table's holders
+-- true if the session is one of the table's holders
 abbrev pub holds : List ℕ → ℕ → ℕ → Bool
 holds tables session table = has (slice_index tables table) session

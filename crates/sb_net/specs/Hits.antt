@@ -20,7 +20,7 @@ is_hit triggers table changes tuple = is_operation triggers (net_effect changes 
 abbrev pub any_tuple : Triggers → ℕ → List Change → List Record → Bool
 any_tuple triggers table changes records = list_any (λ r. is_hit triggers table changes r.1.tuple) records
 
--- whether a tuple's net effect is asked at the record of this kind: of several updates of a tuple at the newest change alone
+-- true if a tuple's net effect is asked at the record of this kind: of several updates of a tuple at the newest change alone
 abbrev pub is_asked : ChangeScope → List Record → ChangeKind → Record → Bool
 is_asked s rs Inserted r = true
 is_asked s rs Deleted r = true
@@ -30,7 +30,7 @@ is_asked s rs Updated r = is_newest s rs r.1.tuple r.0
 abbrev pub any_asked : Triggers → ChangeScope → ChangeKind → List Record → List Record → Bool
 any_asked triggers s kind rs records = list_any (λ r. is_asked s rs kind r && is_hit triggers s.table (changes_in s rs) r.1.tuple) records
 
--- whether changes of the kind may be operations
+-- true if changes of the kind may be operations
 abbrev pub names_kind : Triggers → ChangeKind → Bool
 names_kind triggers Inserted = triggers.inserted
 names_kind triggers Deleted = triggers.deleted

@@ -1,4 +1,4 @@
-//! What several changes of a tuple come to.
+//! The net effect of several changes of a tuple.
 ghost use Rattle.std.specs.Prelude.{◌≡◌, None, option_map, if◌then◌else◌};
 ghost use Rattle.sb_value.specs.NetEffect.{net_between, net_effect, update_between};
 ghost use Rattle.sb_rawlog.specs.Sessions.{changes_since};

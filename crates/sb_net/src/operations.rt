@@ -1,4 +1,4 @@
-//! What the net effects of a session's tuples come to, for whatever rule.
+//! The net effects of a session's tuples together, for whatever rule.
 ghost use Rattle.std.specs.Prelude.{◌≡◌, ◌≤◌, ◌||◌, ◌&&◌, false, IsFalse, option_map};
 ghost use Rattle.sb_value.specs.Laws.{AreLives};
 ghost use Rattle.sb_value.specs.NetEffect.{is_operation, is_triggered};

@@ -15,7 +15,7 @@ pub(crate) struct Span<'a> {
     pub(crate) last: &'a Change,
 }
 
-/// What the session's changes of the tuple that are no older than `since` span.
+/// The span of the session's changes of the tuple that are no older than `since`.
 pub(crate) fn span_of<L: ChangeLog>(
     log: &L,
     who: Who,
@@ -32,7 +32,7 @@ pub(crate) fn span_of<L: ChangeLog>(
     }
 }
 
-/// What the walk that the spot is on has left.
+/// The changes that the walk of the spot has left.
 pub(crate) fn span_from<L: ChangeLog>(log: &L, newest: Spot) -> Span<'_>
     requires { L.stands log.now newest }
     ensures { let todo = tuple_todo (L.records log.now) (Some newest) in

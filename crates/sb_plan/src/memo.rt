@@ -1,4 +1,4 @@
-//! What is known of a condition's subqueries, whatever the combination around them.
+//! Knowledge of a condition's subqueries, whatever the combination around them.
 ghost use Rattle.std.specs.Prelude.{◌≡◌, None, option_map, IfOk};
 ghost use Rattle.sb_plan.specs.Memo as spec;
 
@@ -41,7 +41,7 @@ impl<'r> Drop for Memo<'r> {
 }
 
 impl<'r> Memo<'r> {
-    /// What is known of both sides. Of nothing no tree is made. Error: out of memory.
+    /// The memo of both sides. Of nothing no tree is made. Error: out of memory.
     pub fn both(alloc: Global, left: Memo<'r>, right: Memo<'r>) -> Result<Memo<'r>, AllocError>
         ensures left { IfOk result (λ memo. spec.left memo ≡ left.entry) }
         ensures right { IfOk result (λ memo. spec.right memo ≡ right.entry) }
@@ -52,7 +52,7 @@ impl<'r> Memo<'r> {
         }
     }
 
-    /// What is known of a query, where it is known of its condition alone. Error: out of memory.
+    /// The memo of a query of whose condition alone something is known. Error: out of memory.
     pub fn around(alloc: Global, inside: Memo<'r>) -> Result<Memo<'r>, AllocError>
         ensures within { IfOk result (λ memo. spec.within memo ≡ inside.entry) }
         ensures truth { IfOk result (λ memo. spec.truth memo ≡ None) }
@@ -99,7 +99,7 @@ impl<'r> Memo<'r> {
         }
     }
 
-    /// How the last source of the query is taken.
+    /// The way in which the last source of the query is taken.
     #[inline(always)]
     pub fn way(&self) -> Option<&AccessPath<'r>>
         ensures { option_map (λ way. way.now) result ≡ spec.way self.now }

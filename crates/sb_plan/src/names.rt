@@ -1,4 +1,4 @@
-//! What a query names.
+//! The columns and texts that a query names.
 ghost use Rattle.std.specs.Prelude.{◌≡◌, ◌<◌, get_or, length, IfSome};
 ghost use Rattle.std.specs.Bool.{OnTrue};
 
@@ -18,7 +18,7 @@ pub(crate) fn is_same(one: Column, two: Column) -> bool
     one.depth == two.depth && one.source == two.source && one.place == two.place
 }
 
-/// Where a column stands among these.
+/// The place of a column among these.
 fn place_of(columns: &[Column], column: Column) -> Option<usize>
     ensures { IfSome result (λ k. (k < length columns.now) × (get_or columns.now k column ≡ column)) }
 {
@@ -91,7 +91,7 @@ fn add_items<'c>(items: &'c Items, named: &mut Named<'c>) -> Result<(), AllocErr
     }
 }
 
-/// What a condition names.
+/// The columns and texts that a condition names.
 pub(crate) fn named_by<'c>(alloc: Global, c: &'c Condition) -> Option<Named<'c>> {
     let mut named = Named {
         columns: Vec::new(alloc),
@@ -103,7 +103,7 @@ pub(crate) fn named_by<'c>(alloc: Global, c: &'c Condition) -> Option<Named<'c>>
     }
 }
 
-/// What a query names in its condition and in its sum.
+/// The columns and texts that a query names in its condition and in its sum.
 pub(crate) fn named_in<'c>(alloc: Global, q: &'c Query) -> Option<Named<'c>> {
     let Some(mut named) = named_by(alloc, &q.condition) else {
         return None;

@@ -1,4 +1,4 @@
-//! What a statement sees of the tables and of a rule's transition tables.
+//! The tables and a rule's transition tables, as a statement sees them.
 ghost use Rattle.std.specs.Prelude.{◌≡◌, length};
 ghost use Rattle.sb_value.specs.Table.{table_at};
 ghost use Rattle.sb_plan.specs.Seen.{Seen, rows_in};
@@ -18,7 +18,7 @@ pub trait Sources {
     fn rows(&self, source: Source) -> SourceRows<'_>
         ensures { result ≡ rows_in (seen self.now) source };
 
-    /// How many rows a source has.
+    /// The number of rows of a source.
     fn row_count(&self, source: Source) -> usize
         ensures { result ≡ length (rows_in (seen self.now) source) };
 

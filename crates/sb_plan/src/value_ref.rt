@@ -57,7 +57,7 @@ impl<'r> ValueRef<'r> {
         }
     }
 
-    /// How it compares with another value: texts by their bytes.
+    /// Its order beside another value: texts by their bytes.
     #[inline(always)]
     pub fn order(self, other: ValueRef<'_>) -> Ordering
         ensures { result ≡ value_cmp (value_seen self.entry) (value_seen other.entry) }

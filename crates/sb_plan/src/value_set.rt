@@ -12,7 +12,7 @@ use std::marker::Model;
 /// The fewest values that are put in order. Fewer are walked as fast as they are halved.
 const MANY: usize = 16;
 
-/// How many flags there are at most for each value.
+/// For each value there are at most so many flags.
 const SPREAD: usize = 8;
 
 /// A flag for each number from the least on.
@@ -156,7 +156,7 @@ fn ends_of(values: &[ValueRef<'_>]) -> Option<(i64, i64)> {
     Some((least, greatest))
 }
 
-/// How many flags there are from one number to another, if that isn't too many for so many values.
+/// The number of flags from one number to another, if that isn't too many for so many values.
 fn flag_count(least: i64, greatest: i64, values: usize) -> Option<usize> {
     let Some(distance) = greatest.checked_sub(least) else {
         return None;

@@ -10,7 +10,7 @@ pub record Ranks : Type 0 where
   pub rules : List ℕ
   pub before : List (List Bool)
 
--- whether the rule is in the order
+-- true if the rule is in the order
 abbrev pub is_ranked : Ranks → ℕ → Bool
 is_ranked ranks rule = list_any (λ r. r == rule) ranks.rules
 

@@ -113,7 +113,7 @@ fn spread(rows: &[PrecedenceRow]) -> Pairs
     Pairs::of(direct, Closure::of(before))
 }
 
-/// What precedes the rule by any way of pairs.
+/// The rules that precede the rule by any way of pairs.
 fn before_in(rows: &[PrecedenceRow], rule: RuleId) -> RuleSet
     ensures { (a : ℕ) → flag_at result a ≡ relates (before_of rows.now) a rule }
 {
@@ -123,7 +123,7 @@ fn before_in(rows: &[PrecedenceRow], rule: RuleId) -> RuleSet
     }
 }
 
-/// What a pair puts before the rule.
+/// The rules that a pair puts before the rule.
 fn direct_in(rows: &[PrecedenceRow], rule: RuleId) -> RuleSet
     ensures { (a : ℕ) → flag_at result a ≡ relates (direct_of rows.now) a rule }
 {

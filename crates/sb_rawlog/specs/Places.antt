@@ -38,7 +38,7 @@ pub record AreFree (free : List ℕ) (used : ℕ) (cs : List (Option (Node Chang
   pub apart : Apart free
   pub unused : (p : ℕ) → used ≤ p → get_or cs p None ≡ None
 
--- how many places are free
+-- the number of free places
 abbrev pub room_in : List ℕ → ℕ → List (Option (Node Change)) → ℕ
 room_in free used cs = length free + (length cs - used)
 

@@ -29,7 +29,7 @@ pub(crate) fn node_at<T>(arena: &Arena<Node<T>>, place: usize) -> Option<&Node<T
     None
 }
 
-/// What the change in the place has noted. A tuple's first change leads to itself.
+/// The note of the change in the place. A tuple's first change leads to itself.
 fn back_at<T>(arena: &Arena<Node<T>>, place: usize) -> (usize, usize) {
     match node_at(arena, place) {
         Some(node) => (node.back.depth, node.back.place.unwrap_or(place)),
@@ -37,7 +37,7 @@ fn back_at<T>(arena: &Arena<Node<T>>, place: usize) -> (usize, usize) {
     }
 }
 
-/// What the change behind the tuple's newest one so far notes. Two steps back of one length become one that is as long
+/// The note of the change behind the tuple's newest one so far. Two steps back of one length become one that is as long
 /// as both, so that a change's older ones are few steps away, however many they are (E. W. Myers, "An applicative
 /// random-access stack", 1983).
 fn back_behind<T>(arena: &Arena<Node<T>>, newest: usize) -> Back {
@@ -52,7 +52,7 @@ fn back_behind<T>(arena: &Arena<Node<T>>, newest: usize) -> Back {
     }
 }
 
-/// What a change that comes next notes. An insert is its tuple's first change.
+/// The note of a change that comes next. An insert is its tuple's first change.
 pub(crate) fn back_for(arena: &Arena<Node<Change>>, heads: &Heads, change: &Change) -> Back
     requires { HoldSome arena.now heads.now }
 {

@@ -9,13 +9,13 @@ use crate::key::Key;
 use crate::node::Which;
 use sb_value::{Change, ChangeKind, SessionId, TableId, TenantId};
 
-/// How many sessions there are. Each has a list of its own.
+/// The number of sessions. Each has a list of its own.
 pub(crate) const SESSIONS: usize = 2_048;
 
 /// The most buckets of changes by tuple: so many rows a tenant has at most.
 const MOST_TUPLE_BUCKETS: usize = 65_536;
 
-/// How many buckets of changes by tuple there are beside so many by session, table and kind. A session changes far more
+/// The number of buckets of changes by tuple, for so many by session, table and kind. A session changes far more
 /// tuples than tables, and a walk along a tuple's changes meets those of other tuples in its bucket.
 pub(crate) fn tuple_buckets(buckets: usize) -> usize
     requires { (0 < buckets) × (buckets ≤ 65536) }
@@ -98,7 +98,7 @@ impl Key {
 }
 
 impl Heads {
-    /// Where the list of the key's bucket begins.
+    /// The head of the list of the key's bucket.
     #[inline(always)]
     pub(crate) fn first(&self, key: &Key) -> Option<usize>
         requires ops { 0 < length self.now.ops.items }

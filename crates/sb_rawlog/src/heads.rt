@@ -1,6 +1,6 @@
-//! Where the lists of a log in places begin.
+//! The heads of the lists of a log in places.
 
-/// Where each bucket's list begins: of changes by session, table and kind, of changes by tuple, and by session.
+/// The head of each bucket's list: of changes by session, table and kind, of changes by tuple, and by session.
 pub(crate) struct Heads {
     pub(crate) ops: Vec<Option<usize>>,
     pub(crate) tuples: Vec<Option<usize>>,

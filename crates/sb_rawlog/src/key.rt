@@ -1,11 +1,11 @@
-//! What a walk looks for.
+//! The changes that a walk looks for.
 ghost use Rattle.std.specs.Prelude.{◌≡◌};
 ghost use Rattle.sb_rawlog.specs.Changes.{is_by};
 ghost use Rattle.sb_rawlog.specs.Keys.{fits};
 
 use sb_value::{Change, ChangeKind, TableId, Who};
 
-/// What a walk looks for.
+/// The changes that a walk looks for.
 #[derive(Drop)]
 pub(crate) enum Key {
     Op(Who, TableId, ChangeKind),

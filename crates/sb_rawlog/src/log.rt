@@ -1,4 +1,4 @@
-//! What every log of changes promises.
+//! The promises of every log of changes.
 ghost use Rattle.std.specs.Prelude.{◌≡◌, ℕ, ◌+◌, ◌-◌, ◌<◌, ◌^◌, List, [], ◌∷◌, ◌++◌, Some, length, max, min, OnOk, OnErr, IfSome, option_copied};
 ghost use Rattle.sb_rawlog.specs.Changes.{author, is_op, is_tuple};
 ghost use Rattle.sb_rawlog.specs.declared.spot.Spot.{Spot};
@@ -19,7 +19,7 @@ pub trait ChangeLog {
     /// The time of the next change.
     ghost clock: { Self → ℕ };
 
-    /// How many changes find room.
+    /// The number of changes that find room.
     ghost room: { Self → ℕ };
 
     /// The spot was given by this log, and its record is still there.
@@ -53,7 +53,7 @@ pub trait ChangeLog {
         ensures spare { room self.new + 1 ≡ room self.old }
         ensures spots { SpotsStay (stands self.old) (stands self.new) (records self.new) }
 
-        // What that means for the sessions.
+        // By this the sessions' changes are known, too.
         ensures own { AddsLast change (records self.old) (records self.new) }
         ensures others { OthersStay (author change) (records self.old) (records self.new) };
 
@@ -108,7 +108,7 @@ pub trait ChangeLog {
         ensures clock { clock self.new ≡ clock self.old }
         ensures spots { SpotsStay (stands self.old) (stands self.new) (records self.new) }
 
-        // What that means for the sessions.
+        // By this the sessions' changes are known, too.
         ensures own { TakesLast who (records self.old) (records self.new) result }
         ensures others { OthersStay who (records self.old) (records self.new) };
 
@@ -119,7 +119,7 @@ pub trait ChangeLog {
         ensures clock { clock self.new ≡ clock self.old }
         ensures spots { SpotsStay (stands self.old) (stands self.new) (records self.new) }
 
-        // What that means for the sessions.
+        // By this the sessions' changes are known, too.
         ensures own { changes_by who (records self.new) ≡ [] }
         ensures others { OthersStay who (records self.old) (records self.new) };
 

@@ -104,7 +104,7 @@ pub(crate) fn give_back(free: &mut Vec<usize>, used: &mut usize, place: usize)
     free.push_reserved(place);
 }
 
-/// Where all places are free, forgets which were given back: they are handed out from the first on.
+/// Forgets which places were given back, if all are free: they are handed out from the first on.
 fn rewind(free: &mut Vec<usize>, used: &mut usize)
     ensures places { Rewinds free.old.items used.old free.new.items used.new }
     ensures capacity { vec_capacity free.new ≡ vec_capacity free.old }

@@ -1,4 +1,4 @@
-//! Where a walk stands.
+//! The place that a walk has come to.
 ghost use Rattle.std.specs.Prelude.{◌≡◌};
 ghost use Rattle.sb_rawlog.specs.KeySteps.{spot_of};
 

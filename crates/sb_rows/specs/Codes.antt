@@ -13,7 +13,7 @@ precedes a b = is_lt (slice_cmp nat_cmp a b)
 abbrev pub code_of : List (List ℕ) → List ℕ → ℕ
 code_of texts text = count_by (λ other. precedes other text) texts
 
--- whether a text comes before another or is the same
+-- true if a text comes before another or is the same
 abbrev pub reaches : List ℕ → List ℕ → Bool
 reaches a b = is_le (slice_cmp nat_cmp a b)
 

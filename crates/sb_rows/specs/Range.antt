@@ -17,7 +17,7 @@ AreIn [] (z ∷ row) = ⊥
 AreIn (range ∷ ranges) [] = ⊥
 AreIn (range ∷ ranges) (z ∷ row) = IsIn range z × AreIn ranges row
 
--- how far from zero a range reaches at most
+-- the greatest distance of a range from zero
 abbrev pub reach_of : Range → ℕ
 reach_of range = max (unsigned_abs range.least) (unsigned_abs range.greatest)
 

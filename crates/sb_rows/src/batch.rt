@@ -1,6 +1,6 @@
 //! Columns of a batch of rows.
 
-/// How many rows a batch may have.
+/// The most rows of a batch.
 pub const BATCH_LIMIT: usize = 1_024;
 
 /// A column in a batch: a number that each row has, as of a source that stands at one row, or a number for each row.

@@ -46,7 +46,7 @@ impl<'r> Codes<'r> {
         self.texts
             .partition_point(|other| (*other).cmp(text).is_lt()) as i64
     }
-    /// How many of the texts don't come behind this one.
+    /// The number of texts that don't come behind this one.
     fn reached(&self, text: &[u8]) -> i64
         ensures count { result ≡ pos (count_by (λ other. reaches other text.now) self.now) }
         ensures few { result <ℤ pos (2 ^ 60) }

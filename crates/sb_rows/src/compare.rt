@@ -10,7 +10,7 @@ use crate::batch::BatchColumn;
 use crate::condition::IntegerComparison;
 use crate::selection::{Selection, WORD_COUNT, WORD_SIZE};
 
-/// What may hold of two integers.
+/// A relation of two integers.
 pub(crate) trait Relation {
     ghost holds: { ℤ → ℤ → Bool };
 
@@ -82,7 +82,7 @@ fn word_to_each<R: Relation>(numbers: &[i64], others: &[i64]) -> u64
     word
 }
 
-/// How many words tell of so many rows.
+/// The number of words that tell of so many rows.
 fn used_words(count: usize) -> usize
     requires { count ≤ 1024 }
     ensures enough { count ≤ 64 * result }

@@ -1,7 +1,7 @@
 //! Conditions over the columns of a row.
 use crate::term::Term;
 
-/// How two integers are compared.
+/// A comparison of two integers.
 #[derive(Clone, Copy)]
 pub enum IntegerComparison {
     Equal,
@@ -12,7 +12,7 @@ pub enum IntegerComparison {
     GreaterEqual,
 }
 
-/// What a row has to meet.
+/// A test of a row.
 pub enum Test {
     Always,
     Compare(Term, IntegerComparison, Term),

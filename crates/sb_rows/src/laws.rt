@@ -20,7 +20,7 @@ pub fn keys_keep_order()
         int_cmp (pos (key_of texts a)) (pos (key_of texts b)) ≡ slice_cmp nat_cmp a b }
 {}
 
-/// What is selected by a test of each row are the rows that pass it.
+/// A test of each row selects the rows that pass it.
 pub fn selected_rows_pass()
     ensures { (passes : ℕ → Bool) (count : ℕ) →
         selected (map passes (rows count)) ≡ filter passes (rows count) }

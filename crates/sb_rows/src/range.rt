@@ -84,7 +84,7 @@ impl Range {
         Some(Range { least, greatest })
     }
 
-    /// How far from zero its integers are at most.
+    /// The greatest distance of its integers from zero.
     fn reach(self) -> u64
         ensures { result ≡ reach_of self }
     {

@@ -45,7 +45,7 @@ impl RowText {
         }
     }
 
-    /// How many rows have ended.
+    /// The number of rows that have ended.
     pub fn len(&self) -> usize
         ensures { result ≡ length self.now.rows }
     {

@@ -44,7 +44,7 @@ impl SharedRows {
         })
     }
 
-    /// How many rows there are.
+    /// The number of rows.
     pub fn len(&self) -> usize
         ensures { result ≡ length self.now }
     {

@@ -69,7 +69,7 @@ pub data IsExpr : Expression → Input → Input → Type 0 where
   plus : {a b : Expression} {ts x y rest : Input} → IsExpr a ts x → Is k.Plus x y → IsTerm b y rest → IsExpr (tree.binary a Add b) ts rest
   less : {a b : Expression} {ts x y rest : Input} → IsExpr a ts x → Is k.Minus x y → IsTerm b y rest → IsExpr (tree.binary a Subtract b) ts rest
 
--- how many expressions a query lists
+-- the most expressions of a query
 abbrev pub max_items : ℕ
 max_items = 16
 
@@ -104,7 +104,7 @@ pub data IsNot : Bool → Input → Input → Type 0 where
   plain : {ts : Input} → IsNot false ts ts
   not : {ts rest : Input} → Is k.Not ts rest → IsNot true ts rest
 
--- how deep `not` and parentheses nest in one condition
+-- the greatest depth of `not` and parentheses in one condition
 abbrev pub max_nesting : ℕ
 max_nesting = 32
 
@@ -150,14 +150,14 @@ pub data IsColumnType : ColumnType → Input → Input → Type 0 where
 pub data IsDefinition : ColumnDefinition → Input → Input → Type 0 where
   definition : {n : Name} {type : ColumnType} {ts x rest : Input} → IsName n ts x → IsColumnType type x rest → IsDefinition (record { name = n; of = type }) ts rest
 
--- how many columns a table has
+-- the most columns of a table
 abbrev pub max_columns : ℕ
 max_columns = 8
 
 pub data IsTuple : List Value → Input → Input → Type 0 where
   tuple : {vs : List Value} {ts x y rest : Input} → Is k.LeftParen ts x → Separated k.Comma IsLiteral vs x y → Is k.RightParen y rest → IsTuple vs ts rest
 
--- how deep subqueries nest
+-- the greatest depth of subqueries in subqueries
 abbrev pub max_depth : ℕ
 max_depth = 4
 
@@ -185,7 +185,7 @@ pub data IsAction : Action → Input → Input → Type 0 where
   changes : {change : Statement} {ts rest : Input} → IsChange change ts rest → IsAction (tree.changes change) ts rest
   rolls_back : {ts rest : Input} → Is k.Rollback ts rest → IsAction tree.rolls_back ts rest
 
--- how many actions a rule has
+-- the most actions of a rule
 abbrev pub max_actions : ℕ
 max_actions = 8
 

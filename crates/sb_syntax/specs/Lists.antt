@@ -11,7 +11,7 @@ abbrev pub has_room : Option ℕ → ℕ → Bool
 has_room None n = true
 has_room (Some most) n = nat_lt n most
 
--- whether one more follows the n items of a list
+-- true if one more follows the n items of a list
 abbrev pub follows : TokenKind → Option ℕ → ℕ → Input → Bool
 follows sep most n ts = sees sep ts && has_room most n
 

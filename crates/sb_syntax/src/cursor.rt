@@ -56,7 +56,7 @@ impl<'a> Cursor<'a> {
         }
     }
 
-    /// Where the next token begins, or the length of the text at its end.
+    /// The place at which the next token begins, or the length of the text at its end.
     pub fn place(&self) -> usize {
         match self.tokens {
             [token, ..] => token.start as usize,
@@ -64,7 +64,7 @@ impl<'a> Cursor<'a> {
         }
     }
 
-    /// How many tokens are left.
+    /// The number of tokens that are left.
     pub fn left(&self) -> usize {
         self.tokens.len()
     }

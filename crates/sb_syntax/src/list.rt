@@ -8,13 +8,13 @@ use crate::error::Fault;
 use crate::kind::TokenKind;
 use std::alloc::Global;
 
-/// What lists are of.
+/// The items of a list.
 pub trait Item: Drop {
     ghost use Rattle.std.specs.Prelude.{Result};
     ghost use Rattle.sb_syntax.specs.declared.error.Fault.{Fault};
     ghost use Rattle.sb_syntax.specs.Input.{Input};
 
-    /// What the reading of an item may give, between the tokens before it and those after it.
+    /// The item that may be read between the tokens before it and those after it.
     ghost gives: { Input → Result Self Fault → Input → Type 0 };
 
     fn read(alloc: Global, tokens: &mut Cursor<'_>) -> Result<Self, Fault>

@@ -14,7 +14,7 @@ use crate::select::{items, sources};
 use crate::tree::{Comparison, Condition, Expression, Operand, Query};
 use std::alloc::{AllocError, Global};
 
-/// How deep `not` and parentheses nest in one condition.
+/// The greatest depth of `not` and parentheses in one condition.
 const MAX_NESTING: usize = 32;
 
 fn comparison_of(kind: Option<TokenKind>) -> Option<Comparison>
@@ -243,7 +243,7 @@ fn cond(
     Ok(left)
 }
 
-/// What stands behind `where`, if it is there. Error: the tokens aren't that (Refused), or out of memory.
+/// The condition behind `where`, if it is there. Error: the tokens aren't that (Refused), or out of memory.
 #[cycle(query)]
 #[tactic(auto, unfolding(crate::specs::Reading::filter))]
 pub fn filter(

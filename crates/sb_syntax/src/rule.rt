@@ -16,10 +16,10 @@ use crate::tree::{Action, AlterationText, Query, RuleText, Trigger};
 use sb_value::Name;
 use std::alloc::Global;
 
-/// How many actions a rule has.
+/// The most actions of a rule.
 const MAX_ACTIONS: usize = 8;
 
-/// What stands behind `updated`.
+/// The columns behind `updated`.
 #[tactic(auto, unfolding(crate::specs::Reading::updated_of))]
 fn updated_of(alloc: Global, tokens: &mut Cursor<'_>) -> Result<Trigger, Fault>
     ensures { Gives view.trigger (spec.updated_of tokens.old) result tokens.old tokens.new }

@@ -1,4 +1,4 @@
-//! What a query lists, and from which sources.
+//! The items of a query, and its sources.
 
 ghost use Rattle.std.specs.Prelude.{◌≡◌, map, length};
 ghost use Rattle.sb_syntax.specs.Reading as spec;
@@ -15,7 +15,7 @@ use crate::tree::{Expression, Items, SourceReference, TableReference};
 use sb_value::Name;
 use std::alloc::Global;
 
-/// How many expressions a query lists.
+/// A query lists at most so many expressions.
 const MAX_ITEMS: usize = 16;
 
 #[tactic(auto, unfolding(crate::specs::Reading::all_columns))]
@@ -63,7 +63,7 @@ fn expressions(alloc: Global, tokens: &mut Cursor<'_>) -> Result<Vec<Expression>
     list(alloc, tokens, TokenKind::Comma, Some(MAX_ITEMS))
 }
 
-/// What a query lists. Error: the tokens aren't that (Refused), or out of memory.
+/// The items of a query. Error: the tokens aren't that (Refused), or out of memory.
 #[tactic(auto, unfolding(crate::specs::Reading::items))]
 pub fn items(alloc: Global, tokens: &mut Cursor<'_>) -> Result<Items, Fault>
     ensures { Gives view.items (spec.items tokens.old) result tokens.old tokens.new }

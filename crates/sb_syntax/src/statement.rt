@@ -15,7 +15,7 @@ use crate::tree::{Assignment, Condition, Query, Statement};
 use sb_value::{Name, OpenTuples, Tuples};
 use std::alloc::Global;
 
-/// How deep subqueries nest.
+/// The greatest depth of subqueries in subqueries.
 pub const MAX_DEPTH: usize = 4;
 
 /// Literals, as a tuple that is begun.

@@ -68,7 +68,7 @@ impl Drop for Expression {
     }
 }
 
-/// What a query lists.
+/// The items of a query.
 pub enum Items {
     /// `*`: each column of each source.
     All,
@@ -206,7 +206,7 @@ impl Drop for Action {
     }
 }
 
-/// What triggers a rule, as it is written behind `when`.
+/// A rule's triggers, as they are written behind `when`.
 pub enum Trigger {
     Insert,
     Delete,
@@ -254,7 +254,7 @@ impl Drop for RuleText {
     }
 }
 
-/// What `alter rule` writes of a rule. A part that isn't written stays as it is.
+/// The parts of a rule that `alter rule` writes. A part that isn't written stays as it is.
 pub struct AlterationText {
     pub name: Name,
     /// The query behind `if`.

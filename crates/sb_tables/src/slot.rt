@@ -1,4 +1,4 @@
-//! Where a row stands in memory.
+//! The place of a row in memory.
 ghost use Rattle.std.specs.Prelude.{◌≡◌, ℕ, Contains};
 ghost use Rattle.sb_tables.specs.Rising.{Rises, IsFirstFrom, IsPlace};
 ghost use Rattle.sb_tables.specs.Slots.{numbers};

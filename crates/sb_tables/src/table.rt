@@ -86,7 +86,7 @@ impl Table {
         self.next
     }
 
-    /// How many rows it has.
+    /// The number of its rows.
     pub fn len(&self) -> usize
         ensures { result ≡ length self.now.table.rows }
     {

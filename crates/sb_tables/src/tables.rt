@@ -58,7 +58,7 @@ impl Tables {
         }
     }
 
-    /// How many tables there are.
+    /// The number of tables.
     pub fn len(&self) -> usize
         ensures { result ≡ length self.now }
     {

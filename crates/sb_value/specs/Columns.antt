@@ -16,7 +16,7 @@ with_place set place = if nat_lt place 8 then slice_set set place true else set
 abbrev pub set_where : (ℕ → Bool) → List Bool
 set_where test = map test (0 ∷ 1 ∷ 2 ∷ 3 ∷ 4 ∷ 5 ∷ 6 ∷ 7 ∷ [])
 
--- whether two rows have the same at a place
+-- true if two rows have the same at a place
 abbrev pub same_place : Option Value → Option Value → Bool
 same_place None None = true
 same_place None (Some b) = false

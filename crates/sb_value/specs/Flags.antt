@@ -3,7 +3,7 @@ use Rattle.std.specs.Prelude.{◌≡◌, ◌≤◌, ◌<◌, true, ℕ, zero, su
 use Rattle.std.specs.List.{list_any}
 use Rattle.std.specs.Int.{bit_at}
 
--- whether the number is in the set
+-- true if the number is in the set
 abbrev pub flag_at : List Bool → ℕ → Bool
 flag_at flags k = unwrap_or (slice_get flags k) false
 
@@ -25,7 +25,7 @@ intersection [] ys = []
 intersection (x ∷ xs) [] = []
 intersection (x ∷ xs) (y ∷ ys) = (x && y) ∷ intersection xs ys
 
--- whether the two sets have a number in common
+-- true if the two sets have a number in common
 abbrev pub share_place : List Bool → List Bool → Bool
 share_place [] ys = false
 share_place (x ∷ xs) [] = false

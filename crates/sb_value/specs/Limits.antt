@@ -1,6 +1,6 @@
 -- Promise: limits of a tenant.
 use Rattle.std.specs.Prelude.{ℕ}
 
--- how many rules a tenant has at most
+-- the most rules of a tenant
 abbrev pub rule_limit : ℕ
 rule_limit = 256

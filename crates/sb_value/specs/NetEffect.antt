@@ -76,18 +76,18 @@ abbrev pub tuples_of : List Change → ℕ → List ℕ
 tuples_of [] table = []
 tuples_of (c ∷ cs) table = if c.table == table then with_number c.tuple (tuples_of cs table) else tuples_of cs table
 
--- whether a net update counts for the triggers
+-- true if a net update counts for the triggers
 abbrev pub has_update : Triggers → List Bool → Bool
 has_update triggers columns = triggers.updated || share_place triggers.columns columns
 
--- whether a net effect is one of the triggering operations
+-- true if a net effect is one of the triggering operations
 abbrev pub is_operation : Triggers → Option Net → Bool
 is_operation triggers None = false
 is_operation triggers (Some (net.Inserted new)) = triggers.inserted
 is_operation triggers (Some (net.Deleted old)) = triggers.deleted
 is_operation triggers (Some (net.Updated old new columns)) = has_update triggers columns
 
--- whether the changes trigger a rule on the table
+-- true if the changes trigger a rule on the table
 abbrev pub is_triggered : Triggers → ℕ → List Change → Bool
 is_triggered triggers table changes = list_any (λ tuple. is_operation triggers (net_effect changes table tuple)) (tuples_of changes table)
 

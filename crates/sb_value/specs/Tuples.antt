@@ -7,7 +7,7 @@ abbrev pub cut : List ℕ → List Value → List (List Value)
 cut [] vs = []
 cut (w ∷ ws) vs = take w vs ∷ cut ws (drop w vs)
 
--- how many values the tuples have
+-- the number of values of the tuples
 abbrev pub total : List ℕ → ℕ
 total [] = 0
 total (w ∷ ws) = w + total ws

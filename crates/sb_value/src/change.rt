@@ -7,7 +7,7 @@ use crate::id::{SessionId, TableId, TenantId};
 use crate::row::Row;
 use crate::value::Value;
 
-/// What a change does.
+/// The kind of a change.
 #[derive(Clone, Copy, Debug, PartialEq, Eq)]
 pub enum ChangeKind {
     Inserted,

@@ -1,4 +1,4 @@
-//! How two rows differ.
+//! The columns in which two rows differ.
 ghost use Rattle.std.specs.Prelude.{◌≡◌, slice_get};
 ghost use Rattle.std.specs.Option.{option_copied};
 ghost use Rattle.sb_value.specs.Columns.{differ_at, differing};

@@ -4,19 +4,19 @@ ghost use Rattle.sb_value.specs.Limits.{rule_limit};
 
 use std::marker::Model;
 
-/// How many tenants a host has at most.
+/// The most tenants of a host.
 pub const TENANT_LIMIT: usize = 256;
 
-/// How many sessions a tenant has.
+/// The number of sessions of a tenant.
 pub const SESSION_LIMIT: usize = 8;
 
-/// How many tables a tenant has at most.
+/// The most tables of a tenant.
 pub const TABLE_LIMIT: usize = 16;
 
-/// How many columns a table has at most.
+/// The most columns of a table.
 pub const COLUMN_LIMIT: usize = 8;
 
-/// How many rules a tenant has at most.
+/// The most rules of a tenant.
 pub const RULE_LIMIT: usize = 256;
 
 /// The number of a tenant, 0 to 255.

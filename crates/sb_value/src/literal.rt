@@ -61,7 +61,7 @@ fn text(alloc: Global, quoted: &[u8]) -> Result<Value, LiteralError>
     }
 }
 
-/// What stands between quotes, each quote in it doubled; the first quote was left out.
+/// The text between quotes, each quote in it doubled. The first quote was left out.
 fn unquoted(alloc: Global, quoted: &[u8]) -> Result<Option<Vec<u8>>, AllocError>
     ensures value { IfOk result (λ t. option_map (λ v. v.items) t ≡ text_of quoted.now) }
     ensures printable { IfOk result (λ t. IfSome t (λ v. AllPass is_printable v.items)) }

@@ -1,4 +1,4 @@
-//! How a table is locked.
+//! The modes of a lock on a table.
 
 /// True if a statement reads a table or writes it.
 #[derive(Clone, Copy, Debug, PartialEq, Eq)]

@@ -91,7 +91,7 @@ impl Refusal {
     }
 }
 
-/// What a consideration of a rule came to.
+/// The outcome of a rule's consideration.
 #[derive(Clone, Copy, Debug, PartialEq, Eq)]
 pub enum Verdict {
     True,

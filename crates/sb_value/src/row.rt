@@ -52,7 +52,7 @@ impl Row {
         self.values.as_slice()
     }
 
-    /// How many values it has.
+    /// The number of its values.
     pub fn len(&self) -> usize
         ensures { result ≡ length self.now }
     {
@@ -124,7 +124,7 @@ impl RowList {
         self.rows.as_slice()
     }
 
-    /// How many rows it has.
+    /// The number of its rows.
     pub fn len(&self) -> usize
         ensures { result ≡ length self.now }
     {

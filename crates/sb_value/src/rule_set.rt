@@ -6,10 +6,10 @@ ghost use Rattle.sb_value.specs.Limits.{rule_limit};
 use crate::id::{RULE_LIMIT, RuleId};
 use std::marker::Model;
 
-/// How many rules a word of a set tells of.
+/// The number of rules that a word of a set tells of.
 const WORD_SIZE: usize = 64;
 
-/// How many words a set has.
+/// The number of words of a set.
 const WORD_COUNT: usize = RULE_LIMIT / WORD_SIZE;
 
 /// A set of rules of one tenant: the bits of four words, seen as a flag for each id.
@@ -45,7 +45,7 @@ impl RuleSet {
         }
     }
 
-    /// How many rules a set may have.
+    /// The number of rules that a set may have.
     pub fn capacity(self) -> usize
         ensures value { result ≡ rule_limit }
         ensures flags { length self ≡ result }

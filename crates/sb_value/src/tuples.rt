@@ -7,7 +7,7 @@ use std::alloc::{AllocError, Global};
 use std::marker::Model;
 use std::sync::Arc;
 
-/// How many values each tuple has, in order. Up to two stand inline.
+/// The number of values of each tuple, in order. Up to two are inline.
 type Widths = SmallVec<usize, 2>;
 
 /// Values, and how they are cut into tuples.
@@ -42,7 +42,7 @@ impl Model for Tuples {
 }
 
 impl Tuples {
-    /// How many there are.
+    /// The number of tuples.
     #[tactic(auto, using(crate::proofs::TupleLaws::cut_length))]
     pub fn len(&self) -> usize
         ensures { result ≡ length self.now }

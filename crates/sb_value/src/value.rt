@@ -89,7 +89,7 @@ impl Value {
         }
     }
 
-    /// How it compares with another value.
+    /// Its order beside another value.
     pub fn compare(&self, other: &Value) -> Ordering
         ensures { result ≡ value_cmp self.now other.now }
     {
