@@ -14,9 +14,9 @@ with_work work (Some left) next = if nat_lt left work then Err TooBig else next 
 abbrev pub rules_on : List Rule → ℕ → List Rule
 rules_on rules table = filter (λ rule. rule.table == table) rules
 
--- a change is 100 units of work, and one for each rule of its table
+-- a change is 200 units of work, and one for each rule of its table
 abbrev pub change_work : List Rule → ℕ → ℕ
-change_work rules table = 100 + length (rules_on rules table)
+change_work rules table = 200 + length (rules_on rules table)
 
 -- changes within the budget, each so much work, and what is left
 abbrev pub within_budget : ℕ → Option ℕ → Result (List Change) Refusal → Result (List Change × Option ℕ) Refusal

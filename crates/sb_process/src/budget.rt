@@ -41,7 +41,7 @@ fn rules_on(rules: &[Rule], table: TableId) -> usize
 fn change_work(catalog: &Catalog, table: TableId) -> u64
     ensures { result ≡ min (spec.change_work catalog.now table) (2 ^ 64 - 1) }
 {
-    (rules_on(catalog.rules(), table) as u64).saturating_add(100)
+    (rules_on(catalog.rules(), table) as u64).saturating_add(200)
 }
 
 /// The changes of a table, and what is left once they are made. Error: TooBig if too little is left.
