@@ -13,7 +13,7 @@ PROGRAM is crates/starhost/out/starhost where no word is given. Four trials, eac
 - a greedy tenant under a limit of the process's memory (`ulimit -v`): the others' sessions stay, and with
   --tenant-memory they are not even answered 91 or 92;
 - a server gets each number of its threads and no more: it ends within seconds and tells why, whatever else it does
-  while it serves (`--keys`, `--dump-to`); the plain one serves where it lacks one thread.
+  while it serves (`--keys`, `--dump-to`).
 
 It needs `cc`, which compiles refuse.c of bench/harness.
 """
@@ -195,7 +195,7 @@ def few_threads(program, refuses, room):
     for kind, threads, server in servers:
         what = f"{kind}, {threads} of {THREADS} threads"
         status, last, log = end_of(server, what)
-        if threads == THREADS or (kind, threads) == ("plain", THREADS - 1):
+        if threads == THREADS:
             need(status == 0 and last.startswith("trails 16 steps"), f"{what}: status {status}: {log[-300:]}")
         else:
             need(status == 1 and "fault: cannot start a thread\n" in log, f"{what}: status {status}: {log[-300:]}")

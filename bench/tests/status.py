@@ -430,22 +430,24 @@ def beside_a_step(server, stream, most):
     age = 'filgwesha_tenant_numbers_age_seconds{tenant="0"}'
     until("a step runs", lambda: server.sample(age) > 0 or has_answer(stream))
     shown = {path: timed(server, path) for path in OLD}
-    others = [server.get("/tenants/4")[0], server.get("/tenants/0/dump")[0], server.get("/tenants/0/sessions/0/end", method="POST")[0]]
+    others = [server.get("/tenants/4")[0], server.get("/tenants/0/dump")[0]]
     still = server.sample(age)
     took = {path: round(seconds, 3) for path, (_, _, seconds) in shown.items()}
     # whoever waits for a step is answered when it is over
     if has_answer(stream) or not still:
         sys.exit(f"a step is over before pages are there that took {took}")
+    # its end ends the step, too, at its next consideration
+    expect("the end of its session", server.get("/tenants/0/sessions/0/end", method="POST")[0], 202)
     for path, (status, page, _) in shown.items():
         expect(f"{path} while a step runs", (status, OLD[path] in page), (200, True))
-    expect("another tenant of its cell, its script, and the end of its session", others, [409, 409, 202])
+    expect("another tenant of its cell, and its script", others, [409, 409])
     if max(took.values()) > most:
         sys.exit(f"pages took {took} while a step ran, and are to take {most:.3f} at most")
     return max(took.values())
 
 
 def slow(program, longer):
-    """Slow lines are logged, one of a second; while one runs pages have what they had, and its session ends behind it."""
+    """Slow lines are logged, one of a second; while one runs pages have what they had, and it ends with its session."""
     server = Server(program, "--slow", "1")
     stream, file, reply = server.client("0 0")
     run(file, f"{WIDE}\nbegin")
@@ -474,7 +476,7 @@ def slow(program, longer):
     other.close()
     file.close()
     server.stop()
-    print(f"slow lines: {told} of {lines} told; pages took at most {took * 1000:.0f} ms beside a step of {ran:.1f} s, which ended first")
+    print(f"slow lines: {told} of {lines} told; pages took at most {took * 1000:.0f} ms beside a step of {ran:.1f} s, which its session's end cut short")
 
 
 def numbered(program):

@@ -6,10 +6,9 @@
 PROGRAM is crates/starhost/out/starhost where no word is given. A step is the last line of a script: a statement, or a
 commit with the rules that it considers. The search changes a step at random, its tables, its condition or its rules, and
 goes on from those that took longest. It looks for N seconds (40), and begins with what is known to be dear. The processor
-time of the step counts. If one takes more than 3 seconds for each 2^26 units of work, it is printed, and this ends with
-status 1. On a quiet processor it is half of that: other work takes caches and memory. Where a loop of Python takes longer
-than on a processor of 2.5 GHz, a step may take as much longer. With --table the dearest step is looked for at several
-budgets, and what is printed are rows of the table in docs/OPERATING.md.
+time of the step counts. If one takes more than 1.5 seconds for each 2^26 units of work, it is printed, and this ends with
+status 1. Where a loop of Python takes longer than on a processor of 2.5 GHz, a step may take as much longer. With --table
+the dearest step is looked for at several budgets, and what is printed are rows of the table in docs/OPERATING.md.
 """
 
 import argparse
@@ -24,7 +23,7 @@ import time
 from bench.harness import BUILT, need
 
 WORK = 2**26
-SECONDS = 3
+SECONDS = 1.5
 # seconds of `slowness`'s loop on a processor for which SECONDS holds
 LOOP = 0.085
 LINE = 4096 - len("0 0 ")
